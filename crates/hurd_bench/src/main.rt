@@ -10,8 +10,7 @@
 
 ghost use Rattle.std.specs.Prelude.{IfOk};
 ghost use Rattle.hurd_trans_iface.specs.Meaning.{Begins};
-ghost use Rattle.hurd_small.specs.Hello.{hello_meaning};
-ghost use Rattle.hurd_small.specs.Firmlink.{firmlink_meaning};
+ghost use Rattle.hurd_small.specs.Fixed.{fixed_meaning};
 ghost use Rattle.hurd_kinds.specs.Boxes.{box_meaning};
 
 mod arguments;
@@ -26,7 +25,7 @@ use fault::Fault;
 use files::Files;
 use hurd_creds::Errno;
 use hurd_kinds::{ServerBox, empty_tree};
-use hurd_small::{Firmlink, Hello};
+use hurd_small::FixedServer;
 use hurd_trans_iface::{Server, Words};
 use row::Row;
 use std::alloc::Global;
@@ -39,19 +38,19 @@ use work::Work;
 const LONG_ENOUGH: u64 = 10;
 
 /// A server that gives a short text.
-fn hello(alloc: Global) -> Result<Box<Hello>, Errno>
-    ensures { IfOk result (λ server. Begins (hello_meaning server.value)) }
+fn hello(alloc: Global) -> Result<Box<FixedServer>, Errno>
+    ensures { IfOk result (λ server. Begins (fixed_meaning server.value)) }
 {
     let words = Words::new(alloc, &[b"/hurd/hello", b"--contents=morning"])?;
-    Box::new(alloc, Hello::new(alloc, &words)?).map_err(|_| Errno::ENOMEM)
+    Box::new(alloc, FixedServer::new(alloc, &words)?).map_err(|_| Errno::ENOMEM)
 }
 
 /// A server that leads to the first directory.
-fn firmlink(alloc: Global) -> Result<Box<Firmlink>, Errno>
-    ensures { IfOk result (λ server. Begins (firmlink_meaning server.value)) }
+fn firmlink(alloc: Global) -> Result<Box<FixedServer>, Errno>
+    ensures { IfOk result (λ server. Begins (fixed_meaning server.value)) }
 {
     let words = Words::new(alloc, &[b"/hurd/firmlink", b"/d0"])?;
-    Box::new(alloc, Firmlink::new(alloc, &words)?).map_err(|_| Errno::ENOMEM)
+    Box::new(alloc, FixedServer::new(alloc, &words)?).map_err(|_| Errno::ENOMEM)
 }
 
 /// A server of a kind.
@@ -60,9 +59,9 @@ fn new_server(alloc: Global, kind: Kind) -> Result<ServerBox, Errno>
     ensures { IfOk result (λ server. Begins (box_meaning server)) }
 {
     if matches!(kind, Kind::Firmlink) {
-        return Ok(ServerBox::Firmlink(firmlink(alloc)?));
+        return Ok(ServerBox::Fixed(firmlink(alloc)?));
     }
-    Ok(ServerBox::Hello(hello(alloc)?))
+    Ok(ServerBox::Fixed(hello(alloc)?))
 }
 
 /// Does these kinds of work one after another, and prints the row of each.

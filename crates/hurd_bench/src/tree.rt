@@ -26,7 +26,7 @@ const CONTENTS: &[u8] = b"contents";
 
 /// A world, and where it gets memory from.
 #[derive(Drop)]
-pub struct Tree<S> {
+pub struct Tree<S: Server> {
     alloc: Global,
     world: World<S>,
 }

@@ -37,14 +37,14 @@ struct ClosingOpen {
 
 /// Servers with their nodes, and the ports of tasks.
 #[derive(Drop)]
-pub struct Core<S = Box<dyn Server>> {
+pub struct Core<S: Server = Box<dyn Server>> {
     pub(crate) nodes: Nodes<S>,
     pub(crate) ports: Ports,
     /// How many rights there are to use nodes of each server.
     pub(crate) users: Users,
 }
 
-impl<S> Model for Core<S> {
+impl<S: Server> Model for Core<S> {
     ghost use Rattle.hurd_core.specs.Core.{Whole, coded_whole};
 
     ghost Value = { Whole S };

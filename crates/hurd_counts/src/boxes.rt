@@ -59,6 +59,21 @@ impl Boxes {
         }
         Ok(())
     }
+
+    /// Prints one line of all boxes: how many there are, how often they were told in all, and how many were dropped.
+    ///
+    /// `Write`, `Memory`.
+    pub fn tell_all<W: Write>(&self, alloc: Global, output: &mut Output<W>) -> Result<(), Fault> {
+        let mut sent_away = 0u64;
+        let mut dropped = 0u64;
+        for followed in &self.boxes {
+            sent_away = sent_away.saturating_add(u64::from(followed.counts.sent_away()));
+            dropped = dropped.saturating_add(u64::from(followed.counts.dropped()));
+        }
+        let boxes = self.boxes.len();
+        let line = format!(in alloc; "boxes {boxes}: sent away {sent_away}, dropped {dropped}\n")?;
+        output.print(line.as_bytes())
+    }
 }
 
 impl Followed {

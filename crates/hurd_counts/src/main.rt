@@ -2,16 +2,19 @@
 //!
 //! `hurd_counts < list` prints what that prints, and behind each call a line for each box of which something became: how often in all it was told that it is
 //! sent away, and how often it was dropped. Boxes are numbered as they come; number 0 is the boot server's. In the end the world is dropped.
-//! `hurd_counts at-once < list` makes all calls by one `World::run`, and says behind the last what became of boxes. Statuses and lines on standard error are
-//! those of `hurd`; other words have status 2.
+//! `hurd_counts at-once < list` makes all calls by one `World::run`, and says behind the last what became of boxes.
+//! `hurd_counts chain N` reads nothing: it makes a chain of N servers, each behind a file of the one before, of 1 to 100,000, and says how many go in the one
+//! call by which the first loses its seat. Statuses and lines on standard error are those of `hurd`; other words have status 2.
 #![tactic(auto)]
 
 mod at_once;
 mod boxes;
+mod chain;
 mod counted;
 mod run;
 
-use hurd_terminal::{Input, Output};
+use chain::chain;
+use hurd_terminal::{Input, Output, finish};
 use run::{Manner, program};
 use std::process::ExitCode;
 use std::{env, io};
@@ -19,42 +22,81 @@ use std::{env, io};
 /// What is said where there is no memory, as `hurd` says it.
 const NO_MEMORY: &[u8] = b"hurd: out of memory\n";
 
-/// What is said of other words than the one.
-const OTHER_WORDS: &[u8] = b"hurd_counts: its only word is at-once\n";
+/// What is said of other words.
+const OTHER_WORDS: &[u8] =
+    b"hurd_counts: its only words are at-once, or chain and a number of servers, from 1 to 100,000\n";
 
-/// How the calls are made, by the words behind the program's name; else what is said of these.
-fn manner(rt: &HostRuntime) -> Result<Manner, &'static [u8]> {
+/// The most servers of a chain.
+const MOST_SERVERS: u64 = 100_000;
+
+/// What is asked for.
+enum Asked {
+    /// The calls of a list.
+    List(Manner),
+    /// A chain of so many servers.
+    Chain(u64),
+}
+
+/// What the words behind the program's name ask for; else what is said of these.
+fn read_words(rt: &HostRuntime) -> Result<Asked, &'static [u8]> {
     let arguments = match env::args(rt) {
         Ok(arguments) => arguments,
         Err(error) if error.kind() == io::ErrorKind::OutOfMemory => return Err(NO_MEMORY),
         Err(_) => return Err(OTHER_WORDS),
     };
     match arguments.collect::<Vec<String>>(rt.alloc()) {
-        Ok(words) => manner_of(words.as_slice()),
+        Ok(words) => asked_by(words.as_slice()),
         Err(_) => Err(NO_MEMORY),
     }
 }
 
 /// The same of the words, with the program's name.
-fn manner_of(words: &[String]) -> Result<Manner, &'static [u8]> {
+fn asked_by(words: &[String]) -> Result<Asked, &'static [u8]> {
     match words {
-        [_] => Ok(Manner::InTurn),
-        [_, word] if word.as_str() == "at-once" => Ok(Manner::AtOnce),
+        [_] => Ok(Asked::List(Manner::InTurn)),
+        [_, word] if word.as_str() == "at-once" => Ok(Asked::List(Manner::AtOnce)),
+        [_, word, number] if word.as_str() == "chain" => match servers(number) {
+            Some(servers) => Ok(Asked::Chain(servers)),
+            None => Err(OTHER_WORDS),
+        },
         _ => Err(OTHER_WORDS),
     }
 }
 
+/// The number of servers that digits name, if there may be so many.
+fn servers(text: &str) -> Option<u64> {
+    if !text.bytes().all(|byte| byte.is_ascii_digit()) {
+        return None;
+    }
+    let number = text.parse::<u64>().ok()?;
+    if number == 0 || number > MOST_SERVERS {
+        return None;
+    }
+    Some(number)
+}
+
 fn main(rt: HostRuntime) -> ExitCode {
     let mut errors = Output::new(rt.stderr());
-    let manner = match manner(&rt) {
-        Ok(manner) => manner,
+    let asked = match read_words(&rt) {
+        Ok(asked) => asked,
         Err(said) => {
             let _ = errors.print(said);
             return ExitCode::from(2);
         }
     };
-    let mut input = Input::new(rt.reader());
     let mut output = Output::new(io::writer(&rt));
-    let status = program(rt.alloc(), manner, &mut input, &mut output, &mut errors);
+    let status = match asked {
+        Asked::List(manner) => {
+            let mut input = Input::new(rt.reader());
+            program(rt.alloc(), manner, &mut input, &mut output, &mut errors)
+        }
+        Asked::Chain(servers) => finish(
+            chain(rt.alloc(), servers, &mut output),
+            b"the chain",
+            b"",
+            b"",
+            &mut errors,
+        ),
+    };
     ExitCode::from(status)
 }

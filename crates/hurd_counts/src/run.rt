@@ -8,7 +8,7 @@ use crate::at_once::make_at_once;
 use crate::boxes::Boxes;
 use crate::counted::Counted;
 use hurd_calls::{begun, brought, complaint_of, parsed, part};
-use hurd_creds::Ids;
+use hurd_creds::{Bytes, Ids};
 use hurd_kinds::{ServerBox, empty_tree};
 use hurd_lists::{CallList, ListedCall};
 use hurd_terminal::{Fault, Input, Output, finish, read_text};
@@ -34,7 +34,7 @@ pub fn followed<S: Server>(
 /// A world of tasks over an empty tree in memory, whose box is followed.
 ///
 /// `Boot` with the world's refusal, `Memory`.
-fn boot<S: Server>(
+pub fn boot<S: Server>(
     alloc: Global,
     boxes: &mut Boxes,
     root: S,
@@ -44,6 +44,20 @@ fn boot<S: Server>(
 {
     let root = boxes.follow(alloc, root)?;
     begun(alloc, root, tasks)
+}
+
+/// Makes a call with the server that its words make, and gives what is printed of it and its reply. `Memory`.
+pub fn made<S: Server>(
+    world: &mut World<Counted<S>>,
+    alloc: Global,
+    boxes: &mut Boxes,
+    listed: ListedCall<Counted<S>>,
+    server: Option<S>,
+) -> Result<Bytes, Fault>
+    requires { begun listed.server ≡ option_map S.meaning server }
+{
+    let server = followed(alloc, boxes, server)?;
+    Ok(part(world, alloc, listed, server)?)
 }
 
 /// Makes a call with the server that its words make, and prints it, its reply, and what became of boxes.
@@ -59,8 +73,7 @@ fn make<S: Server, W: Write>(
 ) -> Result<(), Fault>
     requires { begun listed.server ≡ option_map S.meaning server }
 {
-    let server = followed(alloc, boxes, server)?;
-    let part = part(world, alloc, listed, server)?;
+    let part = made(world, alloc, boxes, listed, server)?;
     output.print(part.as_slice())?;
     boxes.tell(alloc, output)
 }

@@ -3,25 +3,25 @@
 
 ghost use Rattle.std.specs.Prelude.{◌≡◌, IfOk};
 ghost use Rattle.hurd_trans_iface.specs.Meaning.{Begins};
-ghost use Rattle.hurd_small.specs.Hello.{hello_meaning};
+ghost use Rattle.hurd_small.specs.Fixed.{fixed_meaning};
 ghost use Rattle.hurd_tmpfs.specs.Tree.{new_tmpfs};
 
 mod tree;
 
 use hurd_creds::{Errno, OpenFlags};
 use hurd_kinds::empty_tree;
-use hurd_small::Hello;
+use hurd_small::FixedServer;
 use hurd_trans_iface::{Server, Words};
 use std::alloc::Global;
 use std::io;
 use tree::{ALICE, ROOT, Tree};
 
 /// A server that gives a text.
-fn hello(alloc: Global) -> Result<Box<Hello>, Errno>
-    ensures { IfOk result (λ server. Begins (hello_meaning server.value)) }
+fn hello(alloc: Global) -> Result<Box<FixedServer>, Errno>
+    ensures { IfOk result (λ server. Begins (fixed_meaning server.value)) }
 {
     let words = Words::new(alloc, &[b"/hurd/hello", b"--contents=Good morning"])?;
-    Box::new(alloc, Hello::new(alloc, &words)?).map_err(|_| Errno::ENOMEM)
+    Box::new(alloc, FixedServer::new(alloc, &words)?).map_err(|_| Errno::ENOMEM)
 }
 
 /// What alice is told.

@@ -19,7 +19,7 @@ const HERE: u64 = 2;
 
 /// A world, and where it gets memory from.
 #[derive(Drop)]
-pub struct Tree<S> {
+pub struct Tree<S: Server> {
     alloc: Global,
     world: World<S>,
 }

@@ -11,13 +11,8 @@ macro_rules! in_box {
     ($of:expr, $server:ident => $call:expr) => {
         match $of {
             ServerBox::Tmpfs($server) => $call,
-            ServerBox::Hello($server) => $call,
-            ServerBox::Null($server) => $call,
-            ServerBox::Zero($server) => $call,
-            ServerBox::Symlink($server) => $call,
-            ServerBox::Firmlink($server) => $call,
+            ServerBox::Fixed($server) => $call,
             ServerBox::Union($server) => $call,
-            ServerBox::Magic($server) => $call,
             ServerBox::Drip($server) => $call,
             ServerBox::Fifo($server) => $call,
         }

@@ -1,12 +1,14 @@
 //! The server that some words make, in a box.
-ghost use Rattle.std.specs.Prelude.{◌≡◌, IfOk};
+ghost use Rattle.std.specs.Prelude.{◌≡◌, ◌≤◌, length, IfOk};
 ghost use Rattle.std.specs.Option.{option_map};
-ghost use Rattle.hurd_trans_iface.specs.Meaning.{begin};
+ghost use Rattle.hurd_trans_iface.specs.HelloKind.{most_text};
+ghost use Rattle.hurd_trans_iface.specs.Meaning.{begin, new_server};
 ghost use Rattle.hurd_trans_iface.specs.Sayings.{IsFit, server_of};
+ghost use Rattle.hurd_small.specs.FixedKinds.{kind_of};
 ghost use Rattle.hurd_tmpfs.specs.Tree.{new_tmpfs, tree};
 ghost use Rattle.hurd_kinds.specs.Boxes.{box_meaning};
 
-use hurd_small::{Drip, Fifo, Firmlink, Hello, Magic, Null, Symlink, Zero};
+use hurd_small::{Drip, Fifo, FixedKind, FixedServer};
 use hurd_tmpfs::Tmpfs;
 use hurd_trans_iface::{Begun, Words, begun_by};
 use hurd_union::{Union, union_of};
@@ -16,15 +18,20 @@ use std::alloc::{AllocError, Global};
 #[derive(Drop)]
 pub enum ServerBox {
     Tmpfs(Box<Tmpfs>),
-    Hello(Box<Hello>),
-    Null(Box<Null>),
-    Zero(Box<Zero>),
-    Symlink(Box<Symlink>),
-    Firmlink(Box<Firmlink>),
+    Fixed(Box<FixedServer>),
     Union(Box<Union>),
-    Magic(Box<Magic>),
     Drip(Box<Drip>),
     Fifo(Box<Fifo>),
+}
+
+/// The server of this kind and text, of which nothing but options changes, in a box.
+#[tactic(auto, unfolding(crate::specs::Boxes::box_meaning))]
+fn fixed(alloc: Global, kind: FixedKind, text: &[u8]) -> Result<ServerBox, AllocError>
+    requires { length text.now ≤ most_text }
+    ensures { IfOk result (λ server. box_meaning server ≡ new_server (kind_of kind) text.now) }
+{
+    let server = FixedServer::of_kind(alloc, kind, text)?;
+    Ok(ServerBox::Fixed(Box::new(alloc, server)?))
 }
 
 /// The server of this kind, to which this is said, in a box.
@@ -35,19 +42,13 @@ fn boxed(alloc: Global, begun: Begun<'_>) -> Result<ServerBox, AllocError>
 {
     Ok(match begun {
         Begun::Tmpfs => ServerBox::Tmpfs(empty_tree(alloc)?),
-        Begun::Hello(text) => ServerBox::Hello(Box::new(alloc, Hello::giving(alloc, text)?)?),
-        Begun::Null => ServerBox::Null(Box::new(alloc, Null::nothing())?),
-        Begun::Zero => ServerBox::Zero(Box::new(alloc, Zero::zeros())?),
-        Begun::Symlink(path) => ServerBox::Symlink(Box::new(
-            alloc,
-            Symlink::leading_to(alloc, path)?,
-        )?),
-        Begun::Firmlink(path) => ServerBox::Firmlink(Box::new(
-            alloc,
-            Firmlink::aimed_at(alloc, path)?,
-        )?),
+        Begun::Hello(text) => fixed(alloc, FixedKind::Hello, text)?,
+        Begun::Null => fixed(alloc, FixedKind::Null, &[])?,
+        Begun::Zero => fixed(alloc, FixedKind::Zero, &[])?,
+        Begun::Symlink(path) => fixed(alloc, FixedKind::Symlink, path)?,
+        Begun::Firmlink(path) => fixed(alloc, FixedKind::Firmlink, path)?,
         Begun::Union(paths) => ServerBox::Union(Box::new(alloc, union_of(alloc, paths)?)?),
-        Begun::Magic => ServerBox::Magic(Box::new(alloc, Magic::own_ports())?),
+        Begun::Magic => fixed(alloc, FixedKind::Magic, b"fd")?,
         Begun::Drip(digits) => ServerBox::Drip(Box::new(alloc, Drip::counted_by(alloc, digits)?)?),
         Begun::Fifo => ServerBox::Fifo(Box::new(alloc, Fifo::empty())?),
     })

@@ -13,8 +13,8 @@ use Rattle.hurd_creds.specs.NameMaps.{NameMap, place_by}
 use Rattle.hurd_creds.proofs.NameLaws.{same_map_by, same_name-itself, equal_if_same}
 use Rattle.hurd_nodes.specs.declared.seat.Seat.{Seat}
 use Rattle.hurd_nodes.specs.declared.seat.Site.{Site}
-use Rattle.hurd_nodes.specs.Held.{AreApart, active_in, row_key, seat_key, seat_value, seated_in, seats_of}
-use Rattle.hurd_nodes.specs.Quiet.{Behind, AreAmong, AreBut, AreElsewhere, AreLess}
+use Rattle.hurd_nodes.specs.Held.{AreApart, active_in, home_in, row_key, seat_key, seat_value, seated_in, seats_of}
+use Rattle.hurd_nodes.specs.Quiet.{Behind, AreAmong, AreBut, AreElsewhere, AreForeign, AreLess}
 use Rattle.hurd_creds.proofs.KeyedLaws.{contains-place, get-absent, place-is}
 use Rattle.hurd_nodes.proofs.HomeLaws.{distinct-apart, row-got}
 use Rattle.hurd_nodes.proofs.RowLaws.{place-position}
@@ -164,6 +164,16 @@ module _ {S : Type 0} (ss : List (Name × Seat S)) (apart : AreApart seat_key ss
     ]
   ]
 
+-- where one is let go that was asked, those that stand behind did so before, or are this one
+pub go-moved : {X : Type 0} (xs : List X) (k i : ℕ) → i < k → k ≤ length xs → (x : X) → Behind (k - 1) (swap xs i (k - 1)) x → (slice_get xs i ≡ Some x) ⊎ Behind k xs x
+go-moved xs k i before fits x b = elim (swap_got xs i (k - 1) b.at x (omega (arith, before, fits)) (omega (arith, before, fits)) b.is) [
+  | inl here ↦ inl here.1
+  | inr far ↦ elim far.1 [
+    | inl first ↦ absurd (far.0 (omega (arith, first.0, b.past, before)))
+    | inr other ↦ inr (behind_more k xs x b.at (past_next k b.at b.past far.0) other.1)
+  ]
+]
+
 -- one that goes, whose place the last takes
 pub drop-less : {S : Type 0} (ss : List (Name × Seat S)) → AreApart seat_key ss → (s : Name) (k : ℕ) → AreLess s k ss k (swap_remove_entry (same_name s) ss)
 drop-less [] apart s k x b = let none : None ≡ Some x = b.is in absurd (cc)
@@ -258,7 +268,17 @@ elsewhere-asked sites n s k l ss ts at less x b = let r = less x b in (λ is. r.
 pub elsewhere-none : {S : Type 0} (sites : NameMap Site) (n : Name) (k : ℕ) (ss : List (Name × Seat S)) → None ≡ active_in sites n → AreElsewhere sites n k ss k ss
 elsewhere-none sites n k ss none x b = (λ is. let clash : None ≡ Some x.0 = none ∙ is in absurd (cc), b)
 
+-- those that are not the server of a node
+
+pub foreign-asked : {S : Type 0} (sites : NameMap Site) (n s : Name) (k l : ℕ) (ss ts : List (Name × Seat S)) → Some s ≡ home_in sites n → AreLess s k ss l ts → AreForeign sites n k ss l ts
+foreign-asked sites n s k l ss ts at less x b = let r = less x b in (λ is. r.0 (same_Some x.0 s (sym is ∙ sym at)), r.1)
+
+pub foreign-none : {S : Type 0} (sites : NameMap Site) (n : Name) (k : ℕ) (ss : List (Name × Seat S)) → None ≡ home_in sites n → AreForeign sites n k ss k ss
+foreign-none sites n k ss none x b = (λ is. let clash : None ≡ Some x.0 = none ∙ is in absurd (cc), b)
+
 pub ruleset elsewhere = (elsewhere-asked, elsewhere-none)
+
+pub ruleset foreign = (foreign-asked, foreign-none)
 
 -- seats that change places
 pub ruleset asks = (ask-absent, ask-asked, ask-moved, last-moved, swap-among, among-itself, seats-same, distinct-apart)

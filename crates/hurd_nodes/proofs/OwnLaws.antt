@@ -126,7 +126,7 @@ module _ {S : Type 0} (ss : List (Name × Seat S)) (s : Name) (i : ℕ) (x : Sea
   -- and the tables are what they were, if it lists each node that was listed
   pub own-tables : (rs : List (Name × Site)) (k : ℕ) → ((n : Name) → home_in (sites_of rs) n ≡ Some s → is_listed n x.own.items ≡ true → is_listed n own.items ≡ true) → AreTables rs ss k
       → AreTables rs (set_value_at ss i with_list) k
-  own-tables rs k kept t = tables-put rs ss k i x with_list read t refl refl (λ n p here home on. elim (or_cases (same_name n x.root) (is_listed n x.own.items) on) [
+  own-tables rs k kept t = tables-put rs ss k i x with_list read t refl (λ n p here home on. elim (or_cases (same_name n x.root) (is_listed n x.own.items) on) [
     | inl root ↦ or_left (same_name n x.root) _ root
     | inr later ↦ or_right (same_name n x.root) _ (kept n (home ∙ ap Some (sym (named_there p here))) later)
   ])

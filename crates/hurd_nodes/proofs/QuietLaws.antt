@@ -1,4 +1,4 @@
--- A server that is quiet stays so where sites change that are not its own, and it is not active on.
+-- A server that is quiet stays so where sites change that it is not active on.
 use Rattle.std.proofs.Common.{◌≡◌, ◌≢◌, inl, inr, true, refl, sym, ap, ◌∙◌}
 use Rattle.std.specs.Prelude.{Option, Some, None, not}
 use Rattle.std.specs.Option.{option_map}
@@ -10,8 +10,8 @@ use Rattle.hurd_nodes.specs.declared.seat.Seat.{Seat}
 use Rattle.hurd_nodes.specs.declared.seat.Site.{Site}
 use Rattle.hurd_nodes.specs.Held.{active_in, home_in, is_home, new_site}
 use Rattle.hurd_nodes.specs.Shown.{is_other, with_active, without_sites}
-use Rattle.hurd_nodes.specs.Quiet.{IsQuiet, IsUnknown}
-use Rattle.hurd_nodes.proofs.Sites.{active-apart, active-edited_apart, active-here, active-left, active_by, home-apart, home-edited, home-here, home-less, home-less_apart, home-was}
+use Rattle.hurd_nodes.specs.Quiet.{IsQuiet}
+use Rattle.hurd_nodes.proofs.Sites.{active-apart, active-edited_apart, active-here, active-left, active_by, home-apart, home-edited}
 
 module _ {S : Type 0} (sites : NameMap Site) (x : Name × Seat S) (q : IsQuiet sites x) where
   -- it isn't active on a node on which another is, or none
@@ -23,44 +23,18 @@ module _ {S : Type 0} (sites : NameMap Site) (x : Name × Seat S) (q : IsQuiet s
     less_there : (m : Name) → m ≢ n → active_in (fin.remove sites n) m ≡ active_in sites m
     less_there m apart = ap active_by (remove_apart sites n m apart)
 
-    less_alone : (m : Name) → home_in (fin.remove sites n) m ≡ Some x.0 → m ≡ x.1.root
-    less_alone m is = elim (same_or_apart m n) [
-      | inl here ↦
-          let none : None ≡ Some x.0 = sym (home-less sites n) ∙ ap (home_in (fin.remove sites n)) (sym here) ∙ is in
-          absurd (cc)
-      | inr apart ↦ q.alone m (sym (home-less_apart sites n m apart) ∙ is)
-    ]
-
     pub quiet-less : IsQuiet (fin.remove sites n) x
-    quiet-less = record { seat = q.seat; at = q.at; active = less_there q.seat (elsewhere n other) ∙ q.active; alone = less_alone }
+    quiet-less = record { seat = q.seat; at = q.at; active = less_there q.seat (elsewhere n other) ∙ q.active }
 
-  -- with a site of another server, on which none is active yet
-  module _ (n s : Name) (other : active_in sites n ≢ Some x.0) (apart : s ≢ x.0) where
-    put_alone : (m : Name) → home_in (fin.insert sites n (new_site s)) m ≡ Some x.0 → m ≡ x.1.root
-    put_alone m is = elim (same_or_apart m n) [
-      | inl here ↦
-          let same : Some s ≡ Some x.0 = sym (home-here sites n (new_site s)) ∙ ap (home_in (fin.insert sites n (new_site s))) (sym here) ∙ is in
-          absurd (apart (cc))
-      | inr far ↦ q.alone m (sym (home-apart sites n (new_site s) m far) ∙ is)
-    ]
-
+  -- with a site on which none is active yet
+  module _ (n s : Name) (other : active_in sites n ≢ Some x.0) where
     pub quiet-put : IsQuiet (fin.insert sites n (new_site s)) x
-    quiet-put = record {
-      seat = q.seat;
-      at = q.at;
-      active = active-apart sites n (new_site s) q.seat (elsewhere n other) ∙ q.active;
-      alone = put_alone;
-    }
+    quiet-put = record { seat = q.seat; at = q.at; active = active-apart sites n (new_site s) q.seat (elsewhere n other) ∙ q.active }
 
   -- another active on a node, or none
   module _ (n : Name) (o : Option Name) (other : active_in sites n ≢ Some x.0) where
     pub quiet-active : IsQuiet (edit n (with_active o) sites) x
-    quiet-active = record {
-      seat = q.seat;
-      at = q.at;
-      active = active-edited_apart sites n o q.seat (elsewhere n other) ∙ q.active;
-      alone = λ m is. q.alone m (sym (home-edited sites n o m) ∙ is);
-    }
+    quiet-active = record { seat = q.seat; at = q.at; active = active-edited_apart sites n o q.seat (elsewhere n other) ∙ q.active }
 
   -- without another server
   module _ (s : Name) (apart : x.0 ≢ s) (guests : (n : Name) → home_in sites n ≡ Some s → active_in sites n ≢ Some x.0) where
@@ -78,12 +52,7 @@ module _ {S : Type 0} (sites : NameMap Site) (x : Name × Seat S) (q : IsQuiet s
     left_active = active-left sites s q.seat ∙ rw (seat_other, q.active, same_name-apart s x.0 (λ e. apart (sym e))) refl
 
     pub quiet-left : IsQuiet (without_sites s sites) x
-    quiet-left = record {
-      seat = q.seat;
-      at = q.at;
-      active = left_active;
-      alone = λ m is. q.alone m (home-was sites s m x.0 is);
-    }
+    quiet-left = record { seat = q.seat; at = q.at; active = left_active }
 
 -- a server that comes: no site knows it yet
 module _ (sites : NameMap Site) (s root seat : Name) where
@@ -116,18 +85,16 @@ module _ (sites : NameMap Site) (s root seat : Name) where
       | inr apart ↦ absurd (homeless n (sym (home-apart sites root (new_site s) n apart) ∙ sym (home-edited with_root seat (Some s) n) ∙ is))
     ]
 
-    -- it is quiet, if the node on which it is active has a site
-    pub quiet-new : {S : Type 0} (e : Seat S) → e.root ≡ root → e.at ≡ Some seat → (r : Site) → fin.get with_root seat ≡ Some r → IsQuiet then_sites (s, e)
-    quiet-new e root_is at r there = record {
-      seat = seat;
-      at = at;
-      active = ap active_by (edit_here with_root seat (with_active (Some s)) ∙ ap (option_map (with_active (Some s))) there);
-      alone = λ n is. new-alone n is ∙ sym root_is;
-    }
+  -- it is quiet, if the node on which it is active has a site
+  pub quiet-new : {S : Type 0} (e : Seat S) → e.at ≡ Some seat → (r : Site) → fin.get with_root seat ≡ Some r → IsQuiet then_sites (s, e)
+  quiet-new e at r there = record {
+    seat = seat;
+    at = at;
+    active = ap active_by (edit_here with_root seat (with_active (Some s)) ∙ ap (option_map (with_active (Some s))) there);
+  }
 
 -- another server, where this one comes
-pub quiet-old : {S : Type 0} (sites : NameMap Site) (x : Name × Seat S) → IsQuiet sites x → (root s node : Name) → IsUnknown sites s → active_in sites root ≢ Some x.0
+pub quiet-old : {S : Type 0} (sites : NameMap Site) (x : Name × Seat S) → IsQuiet sites x → (root s node : Name) → active_in sites root ≢ Some x.0
     → active_in (fin.insert sites root (new_site s)) node ≢ Some x.0 → IsQuiet (edit node (with_active (Some s)) (fin.insert sites root (new_site s))) x
-quiet-old sites x q root s node unknown rootless nodeless =
-    let apart : s ≢ x.0 = λ same. (unknown q.seat).1 (q.active ∙ ap Some (sym same)) in
-    quiet-active (fin.insert sites root (new_site s)) x (quiet-put sites x q root s rootless apart) node (Some s) nodeless
+quiet-old sites x q root s node rootless nodeless =
+    quiet-active (fin.insert sites root (new_site s)) x (quiet-put sites x q root s rootless) node (Some s) nodeless

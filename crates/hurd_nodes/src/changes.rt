@@ -3,10 +3,12 @@ ghost use Rattle.std.specs.Prelude.{◌≡◌, [], None, option_copied};
 ghost use Rattle.std.specs.FinMap as fin;
 ghost use Rattle.hurd_creds.specs.Memory.{Steps};
 ghost use Rattle.hurd_trans_iface.specs.Behaviour.{reading, writing, resizing};
-ghost use Rattle.hurd_nodes.specs.Shown.{shown, asked_step, make_at, link_at, edit_header_at, set_options_at, HideNothing, unlink_at, rename_at};
+ghost use Rattle.hurd_nodes.specs.Shown.{shown, asked_step, make_at, link_at, edit_header_at, set_options_at, unlink_at, rename_at};
 ghost use Rattle.hurd_nodes.specs.Needs.{FreeRead, FreeSize, FreeWrite};
 
+use crate::asked::ask_home;
 use crate::asking::can_make_in;
+use crate::forgetting::forget_elsewhere;
 use crate::nodes::Nodes;
 use crate::own::list_node;
 use crate::search::{place_of_seat, place_of_server, put_kin};
@@ -18,7 +20,7 @@ impl<S: Server> Nodes<S> {
     /// At most `amount` bytes of a node from `at` on; where there are none, no memory is taken.
     ///
     /// Errors, in order: `EDIED` no such node, the server's own refusals, `ENOMEM`.
-    #[tactic(auto, using(crate::proofs::ShownLaws::refusals))]
+    #[tactic(auto, using(crate::proofs::ShownLaws::refusals, crate::proofs::SeatLaws::boxes))]
     pub fn read(
         &mut self,
         alloc: Global,
@@ -30,10 +32,9 @@ impl<S: Server> Nodes<S> {
             Steps h (asked_step (reading at amount) node h) result (shown S.meaning self.new) }
         ensures free { let h = shown S.meaning self.old in
             FreeRead at amount node h → result ≡ (asked_step (reading at amount) node h).0 }
-        ensures hidden { HideNothing S.meaning self.old → HideNothing S.meaning self.new }
     {
-        match self.server_of_mut(node) {
-            Some(server) => server.read(alloc, node, at, amount),
+        match place_of_server(&self.sites, &self.seats, node) {
+            Some(i) => self.seats[i].server.read(alloc, node, at, amount),
             None => Err(Errno::EDIED),
         }
     }
@@ -41,16 +42,15 @@ impl<S: Server> Nodes<S> {
     /// Puts bytes into a node at `at`, and answers how many. Takes no memory where there is no data, where the bytes that are written over are there, and in a stream.
     ///
     /// Errors, in order: `EDIED` no such node, the server's own refusals, `ENOMEM`.
-    #[tactic(auto, using(crate::proofs::ShownLaws::refusals))]
+    #[tactic(auto, using(crate::proofs::ShownLaws::refusals, crate::proofs::SeatLaws::boxes))]
     pub fn write(&mut self, node: NodeName, at: u64, bytes: &[u8]) -> Result<u64, Errno>
         ensures shown { let h = shown S.meaning self.old in
             Steps h (asked_step (writing at bytes.now) node h) result (shown S.meaning self.new) }
         ensures free { let h = shown S.meaning self.old in
             FreeWrite at bytes.now node h → result ≡ (asked_step (writing at bytes.now) node h).0 }
-        ensures hidden { HideNothing S.meaning self.old → HideNothing S.meaning self.new }
     {
-        match self.server_of_mut(node) {
-            Some(server) => server.write(node, at, bytes),
+        match place_of_server(&self.sites, &self.seats, node) {
+            Some(i) => self.seats[i].server.write(node, at, bytes),
             None => Err(Errno::EDIED),
         }
     }
@@ -58,16 +58,15 @@ impl<S: Server> Nodes<S> {
     /// Cuts a node's bytes, or grows them by zero bytes. A cut takes no memory, nor does a stream.
     ///
     /// Errors, in order: `EDIED` no such node, the server's own refusals, `ENOMEM`.
-    #[tactic(auto, using(crate::proofs::ShownLaws::refusals))]
+    #[tactic(auto, using(crate::proofs::ShownLaws::refusals, crate::proofs::SeatLaws::boxes))]
     pub fn set_size(&mut self, node: NodeName, size: u64) -> Result<(), Errno>
         ensures shown { let h = shown S.meaning self.old in
             Steps h (asked_step (resizing size) node h) result (shown S.meaning self.new) }
         ensures free { let h = shown S.meaning self.old in
             FreeSize size node h → result ≡ (asked_step (resizing size) node h).0 }
-        ensures hidden { HideNothing S.meaning self.old → HideNothing S.meaning self.new }
     {
-        match self.server_of_mut(node) {
-            Some(server) => server.set_size(node, size),
+        match place_of_server(&self.sites, &self.seats, node) {
+            Some(i) => self.seats[i].server.set_size(node, size),
             None => Err(Errno::EDIED),
         }
     }
@@ -85,8 +84,8 @@ impl<S: Server> Nodes<S> {
     ) -> Result<(), Errno>
         ensures shown { let h = shown S.meaning self.old in
             Steps h (make_at dir (option_copied entry.entry) new h) result (shown S.meaning self.new) }
-        ensures hidden { fin.get self.old.sites new.name ≡ None → HideNothing S.meaning self.old → HideNothing S.meaning self.new }
     {
+        self.asked = ask_home(&self.sites, &mut self.seats, self.asked, dir);
         let Some(i) = place_of_server(&self.sites, &self.seats, dir) else {
             return Err(Errno::EDIED);
         };
@@ -94,6 +93,7 @@ impl<S: Server> Nodes<S> {
         self.sites.reserve(1)?;
         list_node(&self.sites, &mut self.seats, i, new.name, dir)?;
         self.seats[i].server.make(alloc, dir, entry, new)?;
+        forget_elsewhere(&self.sites, &mut self.seats, new.name, dir);
         self.asked = put_kin(&mut self.sites, &mut self.seats, self.asked, new.name, dir);
         Ok(())
     }
@@ -101,7 +101,7 @@ impl<S: Server> Nodes<S> {
     /// Gives a file another name in a directory.
     ///
     /// Errors, in order: those of `can_link`, `ENOMEM`.
-    #[tactic(auto, using(crate::proofs::ShownLaws::refusals))]
+    #[tactic(auto, using(crate::proofs::ShownLaws::refusals, crate::proofs::SeatLaws::boxes))]
     pub fn link(
         &mut self,
         alloc: Global,
@@ -111,11 +111,10 @@ impl<S: Server> Nodes<S> {
     ) -> Result<(), Errno>
         ensures shown { let h = shown S.meaning self.old in
             Steps h (link_at dir name.now node h) result (shown S.meaning self.new) }
-        ensures hidden { HideNothing S.meaning self.old → HideNothing S.meaning self.new }
     {
         self.can_link(dir, name, node)?;
-        match self.server_of_mut(dir) {
-            Some(server) => server.link(alloc, dir, name, node),
+        match place_of_server(&self.sites, &self.seats, dir) {
+            Some(i) => self.seats[i].server.link(alloc, dir, name, node),
             None => Err(Errno::EDIED),
         }
     }
@@ -124,13 +123,13 @@ impl<S: Server> Nodes<S> {
     /// whether it is empty, is for who asks. Takes no memory.
     ///
     /// Errors, in order: `EDIED` no such directory, `ENOTDIR`, `EROFS` its server keeps no tree, `ENOENT`.
-    #[tactic(auto, using(crate::proofs::ShownLaws::refusals))]
+    #[tactic(auto, using(crate::proofs::ShownLaws::refusals, crate::proofs::SeatLaws::boxes))]
     pub fn unlink(&mut self, dir: NodeName, name: &[u8]) -> Result<(), Errno>
         ensures shown { (result, shown S.meaning self.new) ≡ unlink_at dir name.now (shown S.meaning self.old) }
-        ensures hidden { HideNothing S.meaning self.old → HideNothing S.meaning self.new }
     {
-        match self.server_of_mut(dir) {
-            Some(server) => server.unlink(dir, name),
+        self.asked = ask_home(&self.sites, &mut self.seats, self.asked, dir);
+        match place_of_server(&self.sites, &self.seats, dir) {
+            Some(i) => self.seats[i].server.unlink(dir, name),
             None => Err(Errno::EDIED),
         }
     }
@@ -140,7 +139,7 @@ impl<S: Server> Nodes<S> {
     ///
     /// Errors, in order: `EDIED` no such directory, `ENOTDIR`, `EROFS` its server keeps no tree, `EXDEV` the two are of different servers, `EDIED` no such directory
     /// `to`, `ENOTDIR`, `ENOENT`, `ENOMEM`.
-    #[tactic(auto, using(crate::proofs::ShownLaws::refusals))]
+    #[tactic(auto, using(crate::proofs::ShownLaws::refusals, crate::proofs::SeatLaws::boxes))]
     pub fn rename(
         &mut self,
         alloc: Global,
@@ -151,11 +150,11 @@ impl<S: Server> Nodes<S> {
     ) -> Result<(), Errno>
         ensures shown { let h = shown S.meaning self.old in
             Steps h (rename_at dir name.now to new.now h) result (shown S.meaning self.new) }
-        ensures hidden { HideNothing S.meaning self.old → HideNothing S.meaning self.new }
     {
         self.can_rename(dir, name, to)?;
-        match self.server_of_mut(dir) {
-            Some(server) => server.rename(alloc, dir, name, to, new),
+        self.asked = ask_home(&self.sites, &mut self.seats, self.asked, dir);
+        match place_of_server(&self.sites, &self.seats, dir) {
+            Some(i) => self.seats[i].server.rename(alloc, dir, name, to, new),
             None => Err(Errno::EDIED),
         }
     }
@@ -163,13 +162,12 @@ impl<S: Server> Nodes<S> {
     /// Edits what the header of a node says. Whether words may be stored with the node is for who asks. Takes no memory.
     ///
     /// Errors, in order: `EDIED` no such node, `EOPNOTSUPP` its server makes no such edit.
-    #[tactic(auto, using(crate::proofs::ShownLaws::refusals))]
+    #[tactic(auto, using(crate::proofs::ShownLaws::refusals, crate::proofs::SeatLaws::boxes))]
     pub fn edit_header(&mut self, node: NodeName, edit: HeaderEdit) -> Result<(), Errno>
         ensures shown { (result, shown S.meaning self.new) ≡ edit_header_at node edit (shown S.meaning self.old) }
-        ensures hidden { HideNothing S.meaning self.old → HideNothing S.meaning self.new }
     {
-        match self.server_of_mut(node) {
-            Some(server) => server.edit_header(node, edit),
+        match place_of_server(&self.sites, &self.seats, node) {
+            Some(i) => self.seats[i].server.edit_header(node, edit),
             None => Err(Errno::EDIED),
         }
     }
@@ -188,7 +186,6 @@ impl<S: Server> Nodes<S> {
             Steps h (set_options_at server words.now h) result (shown S.meaning self.new) }
         ensures no_words { let h = shown S.meaning self.old in
             words.now ≡ [] → (result, shown S.meaning self.new) ≡ set_options_at server words.now h }
-        ensures hidden { HideNothing S.meaning self.old → HideNothing S.meaning self.new }
     {
         match place_of_seat(&self.seats, server) {
             Some(i) => self.seats[i].server.set_options(alloc, words),

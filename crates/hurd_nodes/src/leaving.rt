@@ -7,7 +7,7 @@ ghost use Rattle.indexmap.specs.IndexMap.{spare};
 ghost use Rattle.hurd_creds.specs.NameMaps.{place_by};
 ghost use Rattle.hurd_trans_iface.specs.Nodes.{is_listed};
 ghost use Rattle.hurd_nodes.specs.Held.{AreApart, held_of, home_in, row_key, sites_of, seat_key, seat_value, seats_of};
-ghost use Rattle.hurd_nodes.specs.Quiet.{AreLess, Behind, IsClearing, vacated_at};
+ghost use Rattle.hurd_nodes.specs.Quiet.{AreLess, AreOld, Behind, IsClearing, vacated_at};
 ghost use Rattle.hurd_nodes.specs.Tables.{AreKept};
 ghost use Rattle.hurd_nodes.specs.Shown.{less_old, without_server};
 
@@ -30,6 +30,7 @@ pub(crate) fn remove_server<S: Drop>(
     requires { AreKept sites.old.entries seats.old.entries aims.old.entries asked }
     ensures is { held_of sites.new.entries seats.new.entries ≡ without_server (held_of sites.old.entries seats.old.entries) server }
     ensures kept { AreKept sites.new.entries seats.new.entries aims.new.entries result }
+    ensures less { AreLess server asked seats.old.entries result seats.new.entries }
     ensures room { (spare sites.old ≤ spare sites.new) × (spare seats.old ≤ spare seats.new) × (spare aims.old ≤ spare aims.new) }
 {
     let asked = put_last(seats, asked, server);
@@ -123,6 +124,7 @@ fn vacate_at(sites: &mut Sites, server: ServerName, at: Option<NodeName>)
 fn tell_away<S: Server>(seats: &mut Seats<S>, server: ServerName)
     ensures others { fin.remove (seats_of seats.new.entries) server ≡ fin.remove (seats_of seats.old.entries) server }
     ensures kept { (sites es : _) (k : ℕ) → AreKept sites seats.old.entries es k → AreKept sites seats.new.entries es k }
+    ensures old { (k : ℕ) (x : _) → x.0 ≢ server → Behind k seats.new.entries x → Behind k seats.old.entries x }
     ensures room { spare seats.old ≤ spare seats.new }
 {
     if let Some(i) = place_of_seat(seats, server) {
@@ -141,6 +143,7 @@ pub(crate) fn send_away<S: Server>(
     requires { AreKept sites.old.entries seats.old.entries aims.old.entries asked }
     ensures is { held_of sites.new.entries seats.new.entries ≡ without_server (held_of sites.old.entries seats.old.entries) server }
     ensures kept { AreKept sites.new.entries seats.new.entries aims.new.entries result }
+    ensures less { AreLess server asked seats.old.entries result seats.new.entries }
     ensures room { (spare sites.old ≤ spare sites.new) × (spare seats.old ≤ spare seats.new) × (spare aims.old ≤ spare aims.new) }
 {
     tell_away(seats, server);
@@ -158,6 +161,7 @@ pub(crate) fn remove_old<S: Server>(
     requires { AreKept sites.old.entries seats.old.entries aims.old.entries asked }
     ensures is { held_of sites.new.entries seats.new.entries ≡ less_old (held_of sites.old.entries seats.old.entries) old }
     ensures kept { AreKept sites.new.entries seats.new.entries aims.new.entries result }
+    ensures old { AreOld asked seats.old.entries result seats.new.entries }
     ensures room { (spare sites.old ≤ spare sites.new) × (spare seats.old ≤ spare seats.new) × (spare aims.old ≤ spare aims.new) }
 {
     match old {

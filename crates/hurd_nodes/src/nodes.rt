@@ -14,6 +14,7 @@ ghost use Rattle.hurd_nodes.specs.Held.{active_in, box_by, home_in, mean};
 
 use crate::aims::Aims;
 use crate::asking::{has_tree, told_text};
+use crate::forgetting::are_kin;
 use crate::search::{home_of, place_of_seat, place_of_server, put_seat, put_site};
 use crate::seat::{Seat, Seats, Sites};
 use bitflags::Flags;
@@ -30,7 +31,7 @@ pub const BOOT_NAME: Name = Name {
 
 /// The servers of a world, and their nodes.
 #[derive(Drop)]
-pub struct Nodes<S = Box<dyn Server>> {
+pub struct Nodes<S: Server = Box<dyn Server>> {
     pub(crate) sites: Sites,
     pub(crate) seats: Seats<S>,
     /// How often each node is a target.
@@ -39,9 +40,9 @@ pub struct Nodes<S = Box<dyn Server>> {
     pub(crate) asked: usize,
 }
 
-impl<S> Model for Nodes<S> {
+impl<S: Server> Model for Nodes<S> {
     ghost use Rattle.hurd_nodes.specs.Held.{Held, coded_held, held_of};
-    ghost use Rattle.hurd_nodes.specs.Tables.{AreKept};
+    ghost use Rattle.hurd_nodes.specs.Tables.{AreWhole};
 
     ghost Value = { Held S };
 
@@ -49,21 +50,16 @@ impl<S> Model for Nodes<S> {
 
     ghost view = { λ n. held_of n.sites.entries n.seats.entries };
 
-    ghost invariant = { λ n. AreKept n.sites.entries n.seats.entries n.aims.entries n.asked };
+    ghost invariant = { λ n. AreWhole S.meaning n.sites.entries n.seats.entries n.aims.entries n.asked };
 }
 
 impl<S: Server> Nodes<S> {
-    ghost use Rattle.std.specs.Borrow.{sem};
-    ghost use Rattle.std.specs.Option.{option_copied_mut};
-    ghost use Rattle.hurd_nodes.specs.Lends.{lends_server};
-
     /// The boot server alone, whose root belongs to uid 0 and gid 0, and has the mode 0o755.
     ///
     /// `ENOMEM`, with the box back.
     pub fn starting(alloc: Global, boot: S) -> Result<Nodes<S>, (Errno, S)>
         requires { Begins (S.meaning boot) }
         ensures shown { IfOk result (λ n. shown S.meaning n ≡ state_of (booted (S.meaning boot))) }
-        ensures hidden { IfOk result (λ n. HideNothing S.meaning n) }
         ensures err { IfErr result (λ e. e ≡ (Errno.ENOMEM, boot)) }
     {
         let Ok(ids) = Ids::new(alloc, &[0], &[]) else {
@@ -107,17 +103,6 @@ impl<S: Server> Nodes<S> {
         }
     }
 
-    /// The box that serves a node, to be changed.
-    pub(crate) fn server_of_mut(&mut self, node: NodeName) -> Option<&mut S>
-        ensures* lends { sem 𝓛 (lends_server S.row self.entry node result) }
-        ensures there { option_map S.meaning (option_copied_mut result) ≡ box_by (mean S.meaning self.old.seats) (home_in self.old.sites node) }
-    {
-        match place_of_server(&self.sites, &self.seats, node) {
-            Some(i) => Some(&mut self.seats[i].server),
-            None => None,
-        }
-    }
-
     /// The attributes of a node, if it is there.
     #[tactic(auto, using(crate::proofs::ShownLaws::by_box))]
     pub fn attrs(&self, node: NodeName) -> Option<Attrs>
@@ -140,6 +125,13 @@ impl<S: Server> Nodes<S> {
     /// The server of each node is there.
     pub fn nodes_are_served(&self)
         ensures { AreServed (shown S.meaning self.now) }
+    {
+        let _ = &self.sites;
+    }
+
+    /// A box has no node beside those that are shown.
+    pub fn boxes_hide_nothing(&self)
+        ensures { HideNothing S.meaning self.now }
     {
         let _ = &self.sites;
     }
@@ -311,10 +303,7 @@ impl<S: Server> Nodes<S> {
     pub fn are_kin(&self, node: NodeName, other: NodeName) -> bool
         ensures { result ≡ are_kin (home_in self.now.sites node) (home_in self.now.sites other) }
     {
-        match (home_of(&self.sites, node), home_of(&self.sites, other)) {
-            (Some(server), Some(kin)) => server == kin,
-            _ => false,
-        }
+        are_kin(&self.sites, node, other)
     }
 
     /// How many bytes there are to read in a node at a place, if the node is there. Takes no memory.

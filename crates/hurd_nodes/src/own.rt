@@ -4,7 +4,9 @@ ghost use Rattle.std.specs.List.{list_any};
 ghost use Rattle.hurd_creds.specs.Names.{same_name};
 ghost use Rattle.hurd_trans_iface.specs.Nodes.{is_listed};
 ghost use Rattle.hurd_nodes.specs.Held.{AreApart, home_in, is_home, place_in, seat_key, seats_of, sites_of};
-ghost use Rattle.hurd_nodes.specs.Quiet.{Lists};
+ghost use Rattle.hurd_trans_iface.specs.Meaning.{Meaning};
+ghost use Rattle.hurd_nodes.specs.Quiet.{AreCalm, Behind, Lists};
+ghost use Rattle.hurd_nodes.specs.declared.seat.Seat.{Seat};
 ghost use Rattle.hurd_nodes.specs.Tables.{AreTables};
 ghost use Rattle.hurd_nodes.specs.Settle.{any_in};
 
@@ -32,6 +34,8 @@ pub(crate) fn list_node<S>(
     ensures place { Some i ≡ place_in seats.new.entries (home_in (sites_of sites.now.entries) kin) }
     ensures below { i < length seats.new.entries }
     ensures tables { (k : ℕ) → AreTables sites.now.entries seats.old.entries k → AreTables sites.now.entries seats.new.entries k }
+    ensures calm { (f : S → Meaning) (k : ℕ) → AreCalm f seats.old.entries k → AreCalm f seats.new.entries k }
+    ensures names { (k : ℕ) (x : _) → Behind k seats.new.entries x → (y : Seat S) × Behind k seats.old.entries (x.0, y) }
     ensures lists { OnOk result (Lists seats.new.entries (home_in (sites_of sites.now.entries) kin) node) }
 {
     push_own(sites, &mut seats[i].own, node, kin)

@@ -4,7 +4,7 @@ ghost use Rattle.std.specs.FinMap as fin;
 ghost use Rattle.indexmap.specs.IndexMap.{spare};
 ghost use Rattle.hurd_creds.specs.NameMaps.{edit, place_by};
 ghost use Rattle.hurd_nodes.specs.Held.{AreApart, active_in, home_in, is_home, new_site, place_in, row_key, sites_of, seat_key, seat_value, seats_of};
-ghost use Rattle.hurd_nodes.specs.Quiet.{Behind, IsUnknown, Lists};
+ghost use Rattle.hurd_nodes.specs.Quiet.{AreOld, Behind, IsUnknown, Lists};
 ghost use Rattle.hurd_nodes.specs.Tables.{AreTables};
 ghost use Rattle.hurd_nodes.specs.Shown.{with_active, with_home};
 ghost use Rattle.hurd_nodes.specs.Settle.{any_in};
@@ -97,11 +97,11 @@ pub(crate) fn put_kin<S>(
     ensures is { sites_of sites.new.entries ≡ with_home node (home_in (sites_of sites.old.entries) kin) (sites_of sites.old.entries) }
     ensures seats { seats_of seats.new.entries ≡ seats_of seats.old.entries }
     ensures tables { AreTables sites.new.entries seats.new.entries result }
+    ensures old { AreOld asked seats.old.entries result seats.new.entries }
 {
     let Some(server) = home_of(sites, kin) else {
         return asked;
     };
-    let asked = ask(seats, asked, server);
     let asked = ask_active(sites, seats, asked, node);
     put_site(sites, node, server);
     asked
@@ -135,6 +135,7 @@ pub(crate) fn seat_new<S: Drop>(
     ensures sites { sites_of sites.new.entries ≡ edit node (with_active (Some name)) (fin.insert (sites_of sites.old.entries) seat.root (new_site name)) }
     ensures seats { seats_of seats.new.entries ≡ fin.insert (seats_of seats.old.entries) name (seat_value seat) }
     ensures tables { AreTables sites.new.entries seats.new.entries result }
+    ensures old { (x : _) → Behind result seats.new.entries x → (x ≡ (name, seat)) ⊎ Behind asked seats.old.entries x }
 {
     let first = ask_active(sites, seats, asked, seat.root);
     put_site(sites, seat.root, name);

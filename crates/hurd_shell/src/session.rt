@@ -40,14 +40,14 @@ pub enum Want {
 ///
 /// A command may stop for a server that its caller makes: `next` answers `Want::Server` until `supply` or `supply_none` answers it.
 #[derive(Drop)]
-pub struct Session<S = Box<dyn Server>> {
+pub struct Session<S: Server = Box<dyn Server>> {
     world: World<S>,
     commands: Vec<Command>,
     given: usize,
     phase: Phase,
 }
 
-impl<S> Model for Session<S> {
+impl<S: Server> Model for Session<S> {
     ghost use Rattle.hurd_shell.specs.Session.{View, coded_view};
 
     ghost Value = { View S };

@@ -1,10 +1,6 @@
 pub mod Lone
-pub mod Hello
-pub mod Null
-pub mod Zero
-pub mod Symlink
-pub mod Firmlink
-pub mod Magic
+pub mod Meanings
+pub mod FixedKinds
+pub mod Fixed
 pub mod Drip
 pub mod Fifo
-pub mod Meanings

@@ -5,6 +5,6 @@ use Rattle.hurd_small.specs.declared.lone.Lone.{Lone}
 use Rattle.hurd_small.specs.declared.still.Still.{Still}
 use Rattle.hurd_small.specs.Lone.{lone_meaning, nothing_kept}
 
--- of this kind, with the text that it says of itself
-abbrev pub meaning_as : {S : Type 0} → ServerKind → (S → List ℕ) → Lone (Still S) → Meaning
-meaning_as kind text_of s = lone_meaning kind (text_of s.keeper.single) nothing_kept s.presence
+-- of the kind and with the text that it says of itself
+abbrev pub meaning_as : {S : Type 0} → (S → ServerKind) → (S → List ℕ) → Lone (Still S) → Meaning
+meaning_as kind_of text_of s = lone_meaning (kind_of s.keeper.single) (text_of s.keeper.single) nothing_kept s.presence

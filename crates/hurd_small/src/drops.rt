@@ -29,13 +29,13 @@ pub struct Drops {
 }
 
 impl Keeper for Drops {
-    ghost kind = { DripKind };
+    ghost kind = { λ _. DripKind };
 
     ghost text = { λ s. s.digits };
 
     ghost held = { λ s. bytes_kept (replicate s.given drop_byte) };
 
-    ghost no_tree = { refl };
+    ghost no_tree = { λ _. refl };
 
     fn root(&self) -> Root {
         Root {

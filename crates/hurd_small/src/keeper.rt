@@ -15,7 +15,7 @@ use std::alloc::Global;
 /// the node is, is asked where the node isn't there.
 pub trait Keeper: Drop {
     // The kind of its server.
-    ghost kind: { ServerKind };
+    ghost kind: { Self → ServerKind };
 
     // The text of its server.
     ghost text: { Self → List ℕ };
@@ -25,7 +25,7 @@ pub trait Keeper: Drop {
 
     /// What the node is.
     fn root(&self) -> Root
-        ensures { result ≡ root_of kind (text self.now) };
+        ensures { result ≡ root_of (kind self.now) (text self.now) };
 
     /// The text, lent: none where its kind takes none.
     fn said(&self) -> &[u8]
@@ -35,13 +35,14 @@ pub trait Keeper: Drop {
     ///
     /// Errors: `ENOMEM`.
     fn options(&self, alloc: Global) -> Result<Words, Errno>
-        ensures { Meets (Ok (options_of kind (text self.now))) result };
+        ensures { Meets (Ok (options_of (kind self.now) (text self.now))) result };
 
     /// Takes other options in place of those that it has, which may give it another text; without words nothing changes, and no memory is taken.
     ///
     /// Errors, in order: `EINVAL` words that this kind doesn't take, or options past the limits of words; `ENOMEM`.
     fn set_options(&mut self, alloc: Global, words: &Words) -> Result<(), Errno>
-        ensures steps { Steps (text self.old) (text_taken ((behaviour_of kind).set_options words.now) (text self.old)) result (text self.new) }
+        ensures steps { Steps (text self.old) (text_taken ((behaviour_of (kind self.old)).set_options words.now) (text self.old)) result (text self.new) }
+        ensures kind { kind self.new ≡ kind self.old }
         ensures held { held self.new ≡ held self.old }
         ensures no_words { words.now ≡ [] → result ≡ Ok tt };
 
@@ -49,17 +50,18 @@ pub trait Keeper: Drop {
     ///
     /// Errors: `ENOMEM`.
     fn targets(&self, alloc: Global) -> Result<Names, Errno>
-        ensures meets { Meets (Ok (targets_of kind (text self.now))) result }
-        ensures nothing { targets_of kind (text self.now) ≡ [] → result ≡ Ok [] };
+        ensures meets { Meets (Ok (targets_of (kind self.now) (text self.now))) result }
+        ensures nothing { targets_of (kind self.now) (text self.now) ≡ [] → result ≡ Ok [] };
 
     /// The node begins: it holds nothing, and nothing has it open.
     fn begin(&mut self)
+        ensures kind { kind self.new ≡ kind self.old }
         ensures text { text self.new ≡ text self.old }
         ensures held { held self.new ≡ nothing_kept };
 
     /// The node's size, in bytes.
     fn size(&self) -> u64
-        ensures { result ≡ (behaviour_of kind).size (text self.now) (body_with kind (text self.now) (held self.now).bytes) };
+        ensures { result ≡ (behaviour_of (kind self.now)).size (text self.now) (body_with (kind self.now) (text self.now) (held self.now).bytes) };
 
     /// The bytes in the node, lent.
     fn bytes(&self) -> &[u8]
@@ -69,31 +71,34 @@ pub trait Keeper: Drop {
     ///
     /// Errors: what its kind says, else `ENOMEM`.
     fn read(&mut self, alloc: Global, at: u64, amount: u64) -> Result<Bytes, Errno>
-        ensures steps { (n : LoneNode) → let x = node_of kind (text self.old) (held self.old) n in
-            Steps x (served ((behaviour_of kind).read (text self.old) x at amount) x) result (node_of kind (text self.new) (held self.new) n) }
-        ensures nothing { (n : LoneNode) → let x = node_of kind (text self.old) (held self.old) n in
-            told_of ((behaviour_of kind).read (text self.old) x at amount) ≡ Ok [] → result ≡ Ok [] }
+        ensures steps { (n : LoneNode) → let x = node_of (kind self.old) (text self.old) (held self.old) n in
+            Steps x (served ((behaviour_of (kind self.old)).read (text self.old) x at amount) x) result (node_of (kind self.old) (text self.new) (held self.new) n) }
+        ensures nothing { (n : LoneNode) → let x = node_of (kind self.old) (text self.old) (held self.old) n in
+            told_of ((behaviour_of (kind self.old)).read (text self.old) x at amount) ≡ Ok [] → result ≡ Ok [] }
+        ensures kind { kind self.new ≡ kind self.old }
         ensures text { text self.new ≡ text self.old };
 
     /// Puts bytes at a place, and answers how many are taken. Takes no memory.
     ///
     /// Errors: what its kind says.
     fn write(&mut self, at: u64, bytes: &[u8]) -> Result<u64, Errno>
-        ensures steps { (n : LoneNode) → let x = node_of kind (text self.old) (held self.old) n in
-            (result, node_of kind (text self.new) (held self.new) n) ≡ served ((behaviour_of kind).write (text self.old) x at bytes.now) x }
+        ensures steps { (n : LoneNode) → let x = node_of (kind self.old) (text self.old) (held self.old) n in
+            (result, node_of (kind self.old) (text self.new) (held self.new) n) ≡ served ((behaviour_of (kind self.old)).write (text self.old) x at bytes.now) x }
+        ensures kind { kind self.new ≡ kind self.old }
         ensures text { text self.new ≡ text self.old };
 
     /// Cuts the bytes to a size, or grows them. Takes no memory.
     ///
     /// Errors: what its kind says.
     fn set_size(&mut self, size: u64) -> Result<(), Errno>
-        ensures steps { (n : LoneNode) → let x = node_of kind (text self.old) (held self.old) n in
-            (result, node_of kind (text self.new) (held self.new) n) ≡ served ((behaviour_of kind).set_size (text self.old) x size) x }
+        ensures steps { (n : LoneNode) → let x = node_of (kind self.old) (text self.old) (held self.old) n in
+            (result, node_of (kind self.old) (text self.new) (held self.new) n) ≡ served ((behaviour_of (kind self.old)).set_size (text self.old) x size) x }
+        ensures kind { kind self.new ≡ kind self.old }
         ensures text { text self.new ≡ text self.old };
 
     /// How many bytes there are to read at a place.
     fn readable(&self, at: u64) -> u64
-        ensures { (n : LoneNode) → result ≡ (behaviour_of kind).readable (text self.now) (node_of kind (text self.now) (held self.now) n) at };
+        ensures { (n : LoneNode) → result ≡ (behaviour_of (kind self.now)).readable (text self.now) (node_of (kind self.now) (text self.now) (held self.now) n) at };
 
     /// How many opens read the node, where its kind counts that.
     fn readers(&self) -> u128
@@ -105,28 +110,31 @@ pub trait Keeper: Drop {
 
     /// Whether its kind counts who reads and who writes.
     fn counts(&self) -> bool
-        ensures { result ≡ counts_opens kind };
+        ensures { result ≡ counts_opens (kind self.now) };
 
     /// The node is opened with these modes: one more of each that they ask for, where its kind counts that. Takes no memory.
     fn opened(&mut self, modes: OpenFlags)
-        ensures held { held self.new ≡ opened_kept (counts_opens kind) modes (held self.old) }
+        ensures held { held self.new ≡ opened_kept (counts_opens (kind self.old)) modes (held self.old) }
+        ensures kind { kind self.new ≡ kind self.old }
         ensures text { text self.new ≡ text self.old };
 
     /// An open of the node with these modes has gone: one fewer of each, where its kind counts that. Takes no memory.
     fn closed(&mut self, modes: OpenFlags)
-        ensures held { held self.new ≡ closed_kept (counts_opens kind) modes (held self.old) }
+        ensures held { held self.new ≡ closed_kept (counts_opens (kind self.old)) modes (held self.old) }
+        ensures kind { kind self.new ≡ kind self.old }
         ensures text { text self.new ≡ text self.old };
 
     // Nothing is made in it.
-    ghost no_tree: { keeps_tree kind ≡ false };
+    ghost no_tree: { (s : Self) → keeps_tree (kind s) ≡ false };
 }
 
 /// Edits what the header of the node says: opens are counted, where its kind counts them, and nothing else changes.
 ///
 /// Errors: `EOPNOTSUPP` no open and no close, or the kind doesn't count them.
 pub(crate) fn recount<K: Keeper>(keeper: &mut K, edit: HeaderEdit) -> Result<(), Errno>
-    ensures is { (n : LoneNode) → let x = node_of K.kind (K.text keeper.old) (K.held keeper.old) n in
-        (result, node_of K.kind (K.text keeper.new) (K.held keeper.new) n) ≡ header_edited (edits_header K.kind edit) edit x }
+    ensures is { (n : LoneNode) → let x = node_of (K.kind keeper.old) (K.text keeper.old) (K.held keeper.old) n in
+        (result, node_of (K.kind keeper.old) (K.text keeper.new) (K.held keeper.new) n) ≡ header_edited (edits_header (K.kind keeper.old) edit) edit x }
+    ensures kind { K.kind keeper.new ≡ K.kind keeper.old }
     ensures text { K.text keeper.new ≡ K.text keeper.old }
 {
     if !edit.is_made(false, keeper.counts()) {

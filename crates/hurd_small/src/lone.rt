@@ -21,14 +21,14 @@ pub struct Lone<K> {
 impl<K: Keeper> Lone<K> {
     /// Whether its node is a directory.
     fn has_dir(&self) -> bool
-        ensures { result ≡ is_dir (root_of K.kind (K.text self.now.keeper)).kind }
+        ensures { result ≡ is_dir (root_of (K.kind self.now.keeper) (K.text self.now.keeper)).kind }
     {
         is_dir(self.keeper.root().kind)
     }
 
     /// Why nothing changes in a directory of this name: `EDIED` no such node, `ENOTDIR`, `EROFS`.
     fn bars(&self, dir: NodeName) -> Errno
-        ensures { result ≡ barred_by (fin.get (nodes_of K.kind (K.text self.now.keeper) (K.held self.now.keeper) self.now.presence) dir) }
+        ensures { result ≡ barred_by (fin.get (nodes_of (K.kind self.now.keeper) (K.text self.now.keeper) (K.held self.now.keeper) self.now.presence) dir) }
     {
         match self.presence.find(dir) {
             Some(_) if self.has_dir() => Errno::EROFS,
@@ -39,7 +39,7 @@ impl<K: Keeper> Lone<K> {
 }
 
 impl<K: Keeper> Server for Lone<K> {
-    ghost meaning = { λ s. lone_meaning K.kind (K.text s.keeper) (K.held s.keeper) s.presence };
+    ghost meaning = { λ s. lone_meaning (K.kind s.keeper) (K.text s.keeper) (K.held s.keeper) s.presence };
 
     fn begin_root(&mut self, root: NodeName, owner: u32, group: u32, mode: Mode) {
         self.keeper.begin();

@@ -61,13 +61,13 @@ fn one_fewer(is_for: bool, count: u128) -> u128
 }
 
 impl Keeper for Pipe {
-    ghost kind = { FifoKind };
+    ghost kind = { λ _. FifoKind };
 
     ghost text = { λ _. [] };
 
     ghost held = { λ s. record { bytes = s.held.items; readers = s.readers; writers = s.writers } };
 
-    ghost no_tree = { refl };
+    ghost no_tree = { λ _. refl };
 
     fn root(&self) -> Root {
         Root {

@@ -21,7 +21,7 @@ pub struct Still<S> {
 impl<S: Single> Lone<Still<S>> {
     /// The server of a node that has no name yet.
     pub fn unnamed(single: S) -> Lone<Still<S>>
-        ensures { (kind : ServerKind) (text : S → List ℕ) → meaning_as kind text result ≡ new_server kind (text single) }
+        ensures { (kind : S → ServerKind) (text : S → List ℕ) → meaning_as kind text result ≡ new_server (kind single) (text single) }
     {
         Lone {
             keeper: Still { single },
@@ -31,13 +31,13 @@ impl<S: Single> Lone<Still<S>> {
 }
 
 impl<S: Single> Keeper for Still<S> {
-    ghost kind = { S.kind };
+    ghost kind = { λ s. S.kind s.single };
 
     ghost text = { λ s. S.text s.single };
 
     ghost held = { λ _. nothing_kept };
 
-    ghost no_tree = { S.no_tree };
+    ghost no_tree = { λ s. S.no_tree s.single };
 
     fn root(&self) -> Root {
         self.single.root()

@@ -7,7 +7,7 @@ use Rattle.hurd_creds.specs.Memory.{is_no_memory}
 use Rattle.hurd_trans_iface.specs.Nodes.{Node, IsShaped}
 use Rattle.hurd_trans_iface.specs.Behaviour.{Did, Effect, Behaviour, node_left}
 use Rattle.hurd_trans_iface.specs.Good.{IsSized}
-use Rattle.hurd_trans_iface.specs.TmpfsKind.{no_options}
+use Rattle.hurd_trans_iface.specs.Arguments.{no_options}
 
 -- the size stays right
 abbrev pub KeepsSize : {T : Type 0} → Behaviour → List ℕ → Node → Did T → Type 0

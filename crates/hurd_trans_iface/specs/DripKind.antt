@@ -1,12 +1,12 @@
 -- A stream of as many bytes as its word says, one for each read, after which reads fail.
-use Rattle.std.specs.Prelude.{ℕ, zero, suc, ◌==◌, ◌-◌, ◌&&◌, Bool, true, false, not, if◌then◌else◌, List, [], ◌∷◌, ◌++◌, length, nat_le, codes, Option, Some, None, Ok, Err}
+use Rattle.std.specs.Prelude.{ℕ, zero, suc, ◌==◌, ◌-◌, ◌&&◌, Bool, true, false, not, if◌then◌else◌, List, [], ◌∷◌, ◌++◌, length, nat_lt, nat_le, codes, Option, Some, None, Ok, Err}
 use Rattle.hurd_creds.specs.declared.attrs.Kind.TheVariants.{File}
-use Rattle.hurd_creds.specs.declared.errno.Errno.TheVariants.{EIO}
+use Rattle.hurd_creds.specs.declared.errno.Errno.TheVariants.{EFBIG, EIO, EOPNOTSUPP}
+use Rattle.hurd_creds.specs.Limits.{most_size}
 use Rattle.hurd_creds.specs.Numbers.{long_number_of}
 use Rattle.hurd_trans_iface.specs.Nodes.{Body, Content, Listing}
 use Rattle.hurd_trans_iface.specs.Behaviour.{Effect, Behaviour, only, plain_root}
-use Rattle.hurd_trans_iface.specs.TmpfsKind.{no_options}
-use Rattle.hurd_trans_iface.specs.HelloKind.{hello}
+use Rattle.hurd_trans_iface.specs.Arguments.{one_word, no_options}
 
 -- the most bytes that a drip has
 abbrev pub most_drops : ℕ
@@ -28,8 +28,7 @@ says_drops w = nat_le (length w) 4 && (is_bare w && is_few (long_number_of w))
 
 -- the one word says how many
 abbrev pub drip_text : List (List ℕ) → Option (List ℕ)
-drip_text (w ∷ []) = if says_drops w then Some w else None
-drip_text _ = None
+drip_text ws = one_word says_drops ws
 
 -- a number, or zero where there is none
 abbrev pub or_zero : Option ℕ → ℕ
@@ -60,15 +59,20 @@ abbrev pub next_drop : ℕ → ℕ
 next_drop zero = 0
 next_drop (suc left) = 1
 
--- as a file that gives a text it takes no bytes
+-- it takes no bytes, and no size
 abbrev pub drip : Behaviour
-drip = record hello {
+drip = record {
   program = codes "/hurd/drip";
   begins = drip_text;
   options = λ text. codes "/hurd/drip" ∷ text ∷ [];
   set_options = no_options;
+  targets = λ text. [];
   root = λ text. record (plain_root File) { is_stream = true };
+  tree = false;
+  counts = false;
   size = drops_left;
   read = λ text x at amount. dripped x.header.size amount;
+  write = λ text x at bs. Err EOPNOTSUPP;
+  set_size = λ text x size. if nat_lt most_size size then Err EFBIG else Err EOPNOTSUPP;
   readable = λ text x at. next_drop x.header.size;
 }

@@ -1,16 +1,12 @@
 -- A file that gives the server's text.
-use Rattle.std.specs.Prelude.{ℕ, ◌-◌, ◌++◌, Bool, false, if◌then◌else◌, List, [], ◌∷◌, length, take, drop, nat_lt, nat_le, codes, is_some, slice_get, Option, Some, None, Result, Ok, Err}
+use Rattle.std.specs.Prelude.{ℕ, ◌-◌, ◌++◌, Bool, if◌then◌else◌, List, [], ◌∷◌, length, take, drop, nat_le, codes, is_some, slice_get, Option, Some, None, Result, Ok, Err}
 use Rattle.std.specs.List.{list_all}
-use Rattle.std.specs.Str.{bytes_eq}
 use Rattle.hurd_creds.specs.declared.attrs.Kind.TheVariants.{File}
 use Rattle.hurd_creds.specs.declared.errno.Errno.{Errno}
-use Rattle.hurd_creds.specs.declared.errno.Errno.TheVariants.{EINVAL, EOPNOTSUPP, EFBIG}
-use Rattle.hurd_creds.specs.Limits.{most_size}
-use Rattle.hurd_trans_iface.specs.Behaviour.{Behaviour, only, plain_root}
-
--- what a word has behind its first bytes, where these are so
-abbrev pub behind : List ℕ → List ℕ → Option (List ℕ)
-behind first word = if bytes_eq (take (length first) word) first then Some (drop (length first) word) else None
+use Rattle.hurd_creds.specs.declared.errno.Errno.TheVariants.{EINVAL, EOPNOTSUPP}
+use Rattle.hurd_trans_iface.specs.Behaviour.{Behaviour, plain_root}
+pub use Rattle.hurd_trans_iface.specs.Arguments.{behind}
+use Rattle.hurd_trans_iface.specs.Still.{StillKind, still}
 
 -- the text where none is asked for
 abbrev pub greeting : List ℕ
@@ -44,19 +40,20 @@ text_in (Some w) = short_text (behind (codes "--contents=") w)
 abbrev pub hello_options : List (List ℕ) → Result (Option (List ℕ)) Errno
 hello_options ws = if list_all says_text ws then text_in (slice_get ws (length ws - 1)) else Err EINVAL
 
-abbrev pub hello : Behaviour
-hello = record {
+abbrev pub hello_kind : StillKind
+hello_kind = record {
   program = codes "/hurd/hello";
   begins = hello_text;
-  options = λ text. codes "/hurd/hello" ∷ (codes "--contents=" ++ text) ∷ [];
+  arguments = λ text. (codes "--contents=" ++ text) ∷ [];
   set_options = hello_options;
   targets = λ text. [];
   root = λ text. plain_root File;
-  tree = false;
-  counts = false;
-  size = λ text b. length text;
-  read = λ text x at amount. only (take amount (drop at text));
-  write = λ text x at bs. Err EOPNOTSUPP;
-  set_size = λ text x size. if nat_lt most_size size then Err EFBIG else Err EOPNOTSUPP;
-  readable = λ text x at. length text - at;
+  size = λ text. length text;
+  gives = λ text at amount. Ok (take amount (drop at text));
+  takes = λ bs. Err EOPNOTSUPP;
+  cut = Err EOPNOTSUPP;
+  readable = λ text at. length text - at;
 }
+
+abbrev pub hello : Behaviour
+hello = still hello_kind

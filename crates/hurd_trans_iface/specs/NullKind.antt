@@ -1,24 +1,24 @@
 -- A stream without bytes, which drops what it takes.
-use Rattle.std.specs.Prelude.{true, false, if◌then◌else◌, [], ◌∷◌, length, nat_lt, codes, Err}
+use Rattle.std.specs.Prelude.{true, [], length, codes, Ok}
 use Rattle.hurd_creds.specs.declared.attrs.Kind.TheVariants.{Char}
-use Rattle.hurd_creds.specs.declared.errno.Errno.TheVariants.{EFBIG}
-use Rattle.hurd_creds.specs.Limits.{most_size}
-use Rattle.hurd_trans_iface.specs.Behaviour.{Behaviour, only, plain_root}
-use Rattle.hurd_trans_iface.specs.TmpfsKind.{no_text, no_options}
+use Rattle.hurd_trans_iface.specs.Behaviour.{Behaviour, plain_root}
+use Rattle.hurd_trans_iface.specs.Arguments.{no_text, no_options}
+use Rattle.hurd_trans_iface.specs.Still.{StillKind, still}
 
-abbrev pub null : Behaviour
-null = record {
+abbrev pub null_kind : StillKind
+null_kind = record {
   program = codes "/hurd/null";
   begins = no_text;
-  options = λ text. codes "/hurd/null" ∷ [];
+  arguments = λ text. [];
   set_options = no_options;
   targets = λ text. [];
   root = λ text. record (plain_root Char) { is_stream = true };
-  tree = false;
-  counts = false;
-  size = λ text b. 0;
-  read = λ text x at amount. only [];
-  write = λ text x at bs. only (length bs);
-  set_size = λ text x size. if nat_lt most_size size then Err EFBIG else only tt;
-  readable = λ text x at. 0;
+  size = λ text. 0;
+  gives = λ text at amount. Ok [];
+  takes = λ bs. Ok (length bs);
+  cut = Ok tt;
+  readable = λ text at. 0;
 }
+
+abbrev pub null : Behaviour
+null = still null_kind

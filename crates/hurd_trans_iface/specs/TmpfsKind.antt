@@ -1,11 +1,11 @@
 -- A tree of files and directories in memory.
-use Rattle.std.specs.Prelude.{ℕ, ◌+◌, ◌-◌, true, false, if◌then◌else◌, List, [], ◌∷◌, length, take, drop, nat_lt, codes, Option, Some, None, Result, Ok, Err}
+use Rattle.std.specs.Prelude.{ℕ, ◌+◌, ◌-◌, true, false, if◌then◌else◌, List, [], ◌∷◌, length, take, drop, nat_lt, codes, Some, None, Ok, Err}
 use Rattle.hurd_creds.specs.declared.attrs.Kind.TheVariants.{Dir}
-use Rattle.hurd_creds.specs.declared.errno.Errno.{Errno}
-use Rattle.hurd_creds.specs.declared.errno.Errno.TheVariants.{EBADF, EINVAL, EISDIR, EFBIG}
+use Rattle.hurd_creds.specs.declared.errno.Errno.TheVariants.{EBADF, EISDIR, EFBIG}
 use Rattle.hurd_creds.specs.Limits.{most_size}
 use Rattle.hurd_trans_iface.specs.Nodes.{Body, Content, Listing, Header, is_dir, bytes_put, bytes_resized}
 use Rattle.hurd_trans_iface.specs.Behaviour.{Did, Effect, Behaviour, only, plain_root}
+pub use Rattle.hurd_trans_iface.specs.Arguments.{no_text, no_options}
 
 -- bytes of a file, or all that there are from the place on
 abbrev pub read_bytes : ℕ → ℕ → Body → Effect (List ℕ)
@@ -35,16 +35,6 @@ cut_file h size =
 abbrev pub bytes_in : Body → ℕ
 bytes_in (Content bs) = length bs
 bytes_in (Listing es) = 0
-
--- an empty text, where there are no more words
-abbrev pub no_text : List (List ℕ) → Option (List ℕ)
-no_text [] = Some []
-no_text (w ∷ ws) = None
-
--- options that a kind without any takes: no words, which change nothing
-abbrev pub no_options : List (List ℕ) → Result (Option (List ℕ)) Errno
-no_options [] = Ok None
-no_options (w ∷ ws) = Err EINVAL
 
 abbrev pub tmpfs : Behaviour
 tmpfs = record {

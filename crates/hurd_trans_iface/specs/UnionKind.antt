@@ -1,13 +1,12 @@
 -- A directory that shows what several others have.
-use Rattle.std.specs.Prelude.{ℕ, zero, suc, ◌&&◌, if◌then◌else◌, List, [], ◌∷◌, ◌++◌, length, nat_lt, nat_le, codes, Option, Some, None, Err}
+use Rattle.std.specs.Prelude.{ℕ, zero, suc, ◌&&◌, if◌then◌else◌, List, [], ◌∷◌, ◌++◌, length, nat_le, codes, Option, Some, None, Err}
 use Rattle.std.specs.List.{list_all}
 use Rattle.hurd_creds.specs.declared.attrs.Kind.TheVariants.{Dir}
-use Rattle.hurd_creds.specs.declared.errno.Errno.TheVariants.{EBADF, EFBIG, EISDIR}
-use Rattle.hurd_creds.specs.Limits.{most_size}
+use Rattle.hurd_creds.specs.declared.errno.Errno.TheVariants.{EBADF, EISDIR}
 use Rattle.hurd_trans_iface.specs.declared.root.Crossing.TheVariants.{Union}
 use Rattle.hurd_trans_iface.specs.Behaviour.{Behaviour, plain_root}
-use Rattle.hurd_trans_iface.specs.TmpfsKind.{no_options}
-use Rattle.hurd_trans_iface.specs.HelloKind.{hello}
+use Rattle.hurd_trans_iface.specs.Arguments.{no_options}
+use Rattle.hurd_trans_iface.specs.Still.{StillKind, still}
 use Rattle.hurd_trans_iface.specs.FirmlinkKind.{is_firm}
 
 -- several words as one text: a byte 0 ends each word, and in a word a byte 1 stands before each 0 and 1
@@ -45,17 +44,20 @@ union_text [] = None
 union_text (w ∷ ws) = if nat_le (length (w ∷ ws)) most_branches && list_all is_firm (w ∷ ws) then Some (text_of (w ∷ ws)) else None
 
 -- what it shows is no entry of its own, and it takes none
-abbrev pub union : Behaviour
-union = record hello {
+abbrev pub union_kind : StillKind
+union_kind = record {
   program = codes "/hurd/union";
   begins = union_text;
-  options = λ text. codes "/hurd/union" ∷ words_of text;
+  arguments = words_of;
   set_options = no_options;
   targets = words_of;
   root = λ text. record (plain_root Dir) { crossing = Union };
-  size = λ text b. 0;
-  read = λ text x at amount. Err EISDIR;
-  write = λ text x at bs. Err EBADF;
-  set_size = λ text x size. if nat_lt most_size size then Err EFBIG else Err EBADF;
-  readable = λ text x at. 0;
+  size = λ text. 0;
+  gives = λ text at amount. Err EISDIR;
+  takes = λ bs. Err EBADF;
+  cut = Err EBADF;
+  readable = λ text at. 0;
 }
+
+abbrev pub union : Behaviour
+union = still union_kind

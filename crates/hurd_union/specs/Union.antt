@@ -7,4 +7,4 @@ use Rattle.hurd_union.specs.declared.branches.Branches.{Branches}
 
 -- a server of this kind and its text
 abbrev pub union_meaning : Lone (Still Branches) → Meaning
-union_meaning s = meaning_as UnionKind (λ b. b.text) s
+union_meaning s = meaning_as (λ _. UnionKind) (λ b. b.text) s

@@ -22,13 +22,13 @@ pub struct Branches {
 }
 
 impl Single for Branches {
-    ghost kind = { UnionKind };
+    ghost kind = { λ _. UnionKind };
 
     ghost text = { λ s. s.text };
 
-    ghost no_tree = { refl };
+    ghost no_tree = { λ _. refl };
 
-    ghost no_count = { refl };
+    ghost no_count = { λ _. refl };
 
     fn root(&self) -> Root {
         Root {

@@ -1,6 +1,7 @@
 //! The world, and the calls of its tasks.
 ghost use Rattle.std.specs.Prelude.{◌≡◌, ◌⊎◌, IfOk, IfErr, IsOk, map, Ok, Err};
 ghost use Rattle.hurd_trans_iface.specs.Meaning.{Begins};
+ghost use Rattle.hurd_nodes.specs.Shown.{HideNothing};
 ghost use Rattle.hurd_machine.specs.Calls.{BringsBegun, call_by, reply_by};
 ghost use Rattle.hurd_machine.specs.Sound.{Sound};
 ghost use Rattle.hurd_laws.specs.Called.{Called};
@@ -27,11 +28,11 @@ use std::marker::Model;
 
 /// Tasks with their ports over a tree of nodes (GNU Hurd Reference Manual).
 #[derive(Drop)]
-pub struct World<S = Box<dyn Server>> {
+pub struct World<S: Server = Box<dyn Server>> {
     core: Core<S>,
 }
 
-impl<S> Model for World<S> {
+impl<S: Server> Model for World<S> {
     ghost use Rattle.hurd_core.specs.Core.{Whole, coded_whole};
 
     ghost Value = { Whole S };
@@ -79,7 +80,7 @@ impl<S: Server> World<S> {
 
     /// Makes one call of a task. A refused call changes nothing, and gives back the server that it brought, which some words made;
     /// a refused `fsys_startup` alone gives up what the task was to start, but for want of memory. Nothing changes that a set of tasks
-    /// in which the caller is may not change, but that what nobody sees any more goes, and that another task is sent a right.
+    /// in which the caller is may not change, but that what nobody sees any more goes, and that another task is sent a right. No server has a node beside those of the world.
     ///
     /// Errors: `ESRCH` where there is no such task, then those of the call, in its order. `ENOMEM` where a call that takes
     /// memory, and needs some as the world stands, isn't refused, and finds none.
@@ -89,8 +90,11 @@ impl<S: Server> World<S> {
         ensures back { ComesBack call result }
         ensures sound { Sound (world_of S.meaning self.old) → Sound (world_of S.meaning self.new) }
         ensures integrity { Sound (world_of S.meaning self.old) → KeepsIntegrity (world_of S.meaning self.old) task.0 (world_of S.meaning self.new) }
+        ensures hidden { HideNothing S.meaning self.new.nodes }
     {
-        self.dispatch(alloc, task, call)
+        let reply = self.dispatch(alloc, task, call);
+        self.core.nodes().boxes_hide_nothing();
+        reply
     }
 
     /// Hands one call of a task to its row.

@@ -101,3 +101,12 @@ returns-clause-kept g c =
           (aims-less (seats_of c.args.seats.now.entries) c.args.server (seat_value c.in-Some.seat) c.args.aims.now.entries c.subtract_targets.new.aims.entries (seated g d) c.requires.aims
           (rw c.deref.ensures.value at c.subtract_targets.ensures.less));
     }
+
+-- those that stand behind did so before
+
+pub returns-in_default-clause-less : goal.returns-in_default-clause-less
+returns-in_default-clause-less g c = λ x b. let l = c.take_seat.ensures.less c.put_last-asked.result x b in (l.0, c.put_last-asked.ensures.but x l.1 l.0)
+
+pub returns-clause-less : goal.returns-clause-less
+returns-clause-less g c = λ x b.
+    let q = c.clear_sites-asked.ensures.step.guests x b in let l = c.take_seat.ensures.less c.put_last-asked.result x q.1 in (l.0, c.put_last-asked.ensures.but x l.1 l.0)

@@ -12,4 +12,4 @@ invariant_of-unnamed c = record {
 }
 
 pub returns : goal.returns
-returns c = c.unnamed.ensures UnionKind (λ b. b.text) ∙ ap (new_server UnionKind) c.in_ok-text.ensures
+returns c = c.unnamed.ensures (λ _. UnionKind) (λ b. b.text) ∙ ap (new_server UnionKind) c.in_ok-text.ensures

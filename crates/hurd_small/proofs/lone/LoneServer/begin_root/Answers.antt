@@ -7,4 +7,4 @@ returns g c =
     let s = c.args.self.now in
     let k = c.begin.new.self in
     let n : LoneNode = record { name = c.args.root; owner = c.args.owner; group = c.args.group; mode = c.args.mode } in
-    root-begun g.K.Keeper.kind n s.presence (g.K.Keeper.text s.keeper) (g.K.Keeper.held s.keeper) (g.K.Keeper.text k) (g.K.Keeper.held k) c.requires c.begin.ensures.text c.begin.ensures.held
+    rw c.begin.ensures.kind (root-begun (g.K.Keeper.kind s.keeper) n s.presence (g.K.Keeper.text s.keeper) (g.K.Keeper.held s.keeper) (g.K.Keeper.text k) (g.K.Keeper.held k) c.requires c.begin.ensures.text c.begin.ensures.held)

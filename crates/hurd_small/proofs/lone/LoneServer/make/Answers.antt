@@ -5,7 +5,7 @@ use Rattle.hurd_small.proofs.lone.LoneServer.make.Goals as goal
 pub returns : goal.returns
 returns g c =
     let s = c.args.self.now in
-    let kind = g.K.Keeper.kind in
+    let kind = g.K.Keeper.kind s.keeper in
     let text = g.K.Keeper.text s.keeper in
     let held = g.K.Keeper.held s.keeper in
-    make-barred kind text held s.presence c.args.dir g.met.K.Keeper.no_tree c.bars.result c.bars.ensures (option_copied c.args._entry) c.args._new
+    make-barred kind text held s.presence c.args.dir (g.met.K.Keeper.no_tree s.keeper) c.bars.result c.bars.ensures (option_copied c.args._entry) c.args._new

@@ -6,7 +6,7 @@ use Rattle.hurd_small.proofs.lone.LoneServer.read.Goals as goal
 pub returns-in-Some-clause-steps : goal.returns-in-Some-clause-steps
 returns-in-Some-clause-steps g c =
     let s = c.args.self.now in
-    let kind = g.K.Keeper.kind in
+    let kind = g.K.Keeper.kind s.keeper in
     let text = g.K.Keeper.text s.keeper in
     let held = g.K.Keeper.held s.keeper in
     let p = s.presence in
@@ -15,12 +15,12 @@ returns-in-Some-clause-steps g c =
     let is = c.in-Some.ensures.there.0 in
     let name = c.in-Some.ensures.there.1 in
     let k = c.read.new.self in
-    step-kept kind text held p r n is name (reading c.args.at c.args.amount) c.read.result (g.K.Keeper.text k) (g.K.Keeper.held k) c.read.ensures.text (c.read.ensures.steps r)
+    rw c.read.ensures.kind (step-kept kind text held p r n is name (reading c.args.at c.args.amount) c.read.result (g.K.Keeper.text k) (g.K.Keeper.held k) c.read.ensures.text (c.read.ensures.steps r))
 
 pub returns-in-Some-clause-nothing : goal.returns-in-Some-clause-nothing
 returns-in-Some-clause-nothing g c =
     let s = c.args.self.now in
-    let kind = g.K.Keeper.kind in
+    let kind = g.K.Keeper.kind s.keeper in
     let text = g.K.Keeper.text s.keeper in
     let held = g.K.Keeper.held s.keeper in
     let p = s.presence in

@@ -4,7 +4,7 @@ use Rattle.hurd_small.proofs.lone.LoneServer.unlink.Goals as goal
 pub returns : goal.returns
 returns g c =
     let s = c.args.self.now in
-    let kind = g.K.Keeper.kind in
+    let kind = g.K.Keeper.kind s.keeper in
     let text = g.K.Keeper.text s.keeper in
     let held = g.K.Keeper.held s.keeper in
-    unlink-barred kind text held s.presence c.args.dir g.met.K.Keeper.no_tree c.bars.result c.bars.ensures c.args._name.now
+    unlink-barred kind text held s.presence c.args.dir (g.met.K.Keeper.no_tree s.keeper) c.bars.result c.bars.ensures c.args._name.now

@@ -9,7 +9,7 @@ use Rattle.hurd_small.proofs.lone.LoneServer.write.Goals as goal
 pub returns-in-Some : goal.returns-in-Some
 returns-in-Some g c =
     let s = c.args.self.now in
-    let kind = g.K.Keeper.kind in
+    let kind = g.K.Keeper.kind s.keeper in
     let text = g.K.Keeper.text s.keeper in
     let held = g.K.Keeper.held s.keeper in
     let p = s.presence in
@@ -23,7 +23,7 @@ returns-in-Some g c =
     let y = node_of kind (g.K.Keeper.text k) (g.K.Keeper.held k) r in
     let told = ap (λ s. s.0) (c.write.ensures.steps r) ∙ told-kept kind text held p r n is name q c.write.result in
     record {
-      steps = step-kept kind text held p r n is name q c.write.result (g.K.Keeper.text k) (g.K.Keeper.held k) c.write.ensures.text (steps-told (q (behaviour_of kind) text x) x y c.write.result (c.write.ensures.steps r));
+      steps = rw c.write.ensures.kind (step-kept kind text held p r n is name q c.write.result (g.K.Keeper.text k) (g.K.Keeper.held k) c.write.ensures.text (steps-told (q (behaviour_of kind) text x) x y c.write.result (c.write.ensures.steps r)));
       stream = λ is_stream. told;
       within = λ reaches. told;
       nothing = λ empty. told;
@@ -32,7 +32,7 @@ returns-in-Some g c =
 pub returns-in-None : goal.returns-in-None
 returns-in-None g c =
     let s = c.args.self.now in
-    let kind = g.K.Keeper.kind in
+    let kind = g.K.Keeper.kind s.keeper in
     let text = g.K.Keeper.text s.keeper in
     let held = g.K.Keeper.held s.keeper in
     let m = lone_meaning kind text held s.presence in

@@ -6,9 +6,9 @@ use Rattle.hurd_world.proofs.world.World.call.Goals as goal
 pub returns-clause-sound : goal.returns-clause-sound
 returns-clause-sound g c =
     let f = g.S.Server.meaning in
-    called_sound (world_of f c.args.self.now) (world_of f c.dispatch.new.self) c.args.task.0 (call_by f c.args.call) (reply_by f c.dispatch.result) c.dispatch.ensures.0
+    called_sound (world_of f c.args.self.now) (world_of f c.dispatch-reply.new.self) c.args.task.0 (call_by f c.args.call) (reply_by f c.dispatch-reply.result) c.dispatch-reply.ensures.0
 
 pub returns-clause-integrity : goal.returns-clause-integrity
 returns-clause-integrity g c =
     let f = g.S.Server.meaning in
-    called_integrity (world_of f c.args.self.now) (world_of f c.dispatch.new.self) c.args.task.0 (call_by f c.args.call) (reply_by f c.dispatch.result) c.dispatch.ensures.0
+    called_integrity (world_of f c.args.self.now) (world_of f c.dispatch-reply.new.self) c.args.task.0 (call_by f c.args.call) (reply_by f c.dispatch-reply.result) c.dispatch-reply.ensures.0

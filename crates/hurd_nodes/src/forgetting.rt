@@ -1,0 +1,54 @@
+//! Boxes that forget a node.
+ghost use Rattle.std.specs.Prelude.{◌≡◌, ◌≤◌, ℕ};
+ghost use Rattle.indexmap.specs.IndexMap.{spare};
+ghost use Rattle.hurd_nodes.specs.Held.{home_in, mean, seats_of, sites_of};
+ghost use Rattle.hurd_nodes.specs.Quiet.{AreCalm, Lists};
+ghost use Rattle.hurd_nodes.specs.Shown.{are_kin, forgotten, forgotten_elsewhere};
+ghost use Rattle.hurd_nodes.specs.Tables.{AreKept};
+
+use crate::search::{home_of, place_of_server};
+use crate::seat::{Seats, Sites};
+use hurd_creds::NodeName;
+use hurd_trans_iface::Server;
+
+/// Lets the box of a node's server forget it, if it has a server. The node's site stays for now.
+#[tactic(auto, using(crate::proofs::TakeLaws::takings, crate::proofs::SeatLaws::boxes))]
+pub(crate) fn forget<S: Server>(sites: &Sites, seats: &mut Seats<S>, node: NodeName)
+    ensures boxes { mean S.meaning (seats_of seats.new.entries) ≡ forgotten node (home_in (sites_of sites.now.entries) node) (mean S.meaning (seats_of seats.old.entries)) }
+    ensures kept { (es : _) (k : ℕ) → AreKept sites.now.entries seats.old.entries es k → AreKept sites.now.entries seats.new.entries es k }
+    ensures calm { (k : ℕ) → AreCalm S.meaning seats.old.entries k → AreCalm S.meaning seats.new.entries k }
+    ensures lists { (o n : _) → Lists seats.old.entries o n → Lists seats.new.entries o n }
+    ensures room { spare seats.old ≤ spare seats.new }
+{
+    if let Some(i) = place_of_server(sites, seats, node) {
+        seats[i].server.forget(node);
+    }
+}
+
+/// The same, but where another node has that server too.
+pub(crate) fn forget_elsewhere<S: Server>(
+    sites: &Sites,
+    seats: &mut Seats<S>,
+    node: NodeName,
+    kin: NodeName,
+)
+    ensures boxes { let m = sites_of sites.now.entries in
+        mean S.meaning (seats_of seats.new.entries) ≡ forgotten_elsewhere node (home_in m node) (home_in m kin) (mean S.meaning (seats_of seats.old.entries)) }
+    ensures kept { (es : _) (k : ℕ) → AreKept sites.now.entries seats.old.entries es k → AreKept sites.now.entries seats.new.entries es k }
+    ensures calm { (k : ℕ) → AreCalm S.meaning seats.old.entries k → AreCalm S.meaning seats.new.entries k }
+    ensures lists { (o n : _) → Lists seats.old.entries o n → Lists seats.new.entries o n }
+{
+    if !are_kin(sites, node, kin) {
+        forget(sites, seats, node);
+    }
+}
+
+/// Whether two nodes are of one server.
+pub(crate) fn are_kin(sites: &Sites, node: NodeName, other: NodeName) -> bool
+    ensures { let m = sites_of sites.now.entries in result ≡ are_kin (home_in m node) (home_in m other) }
+{
+    match (home_of(sites, node), home_of(sites, other)) {
+        (Some(server), Some(kin)) => server == kin,
+        _ => false,
+    }
+}

@@ -1,8 +1,0 @@
-use Rattle.std.proofs.Common.{refl}
-use Rattle.hurd_trans_iface.specs.Meaning.{Null as NullKind}
-use Rattle.hurd_trans_iface.proofs.Sayings.{begun-other}
-use Rattle.hurd_small.proofs.null.Lone+Still+Nothing.new.Goals as goal
-
-pub returns-in_default-begun-clause-err : goal.returns-in_default-begun-clause-err
-returns-in_default-begun-clause-err c =
-    (begun-other NullKind c.as_slice.ensures c.begun_by.ensures.begins c.in-Some.is c.in_default-begun.not-Null, refl)

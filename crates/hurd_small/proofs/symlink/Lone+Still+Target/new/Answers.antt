@@ -1,8 +1,0 @@
-use Rattle.std.proofs.Common.{refl}
-use Rattle.hurd_trans_iface.specs.Meaning.{Symlink as SymlinkKind}
-use Rattle.hurd_trans_iface.proofs.Sayings.{begun-other}
-use Rattle.hurd_small.proofs.symlink.Lone+Still+Target.new.Goals as goal
-
-pub returns-in_default-begun-clause-err : goal.returns-in_default-begun-clause-err
-returns-in_default-begun-clause-err c =
-    rw (begun-other SymlinkKind c.as_slice.ensures c.begun_by.ensures.begins c.in-Some.is (λ o. c.in_default-begun.not-Symlink o.0 o.1)) refl

@@ -1,0 +1,68 @@
+//! A server of one node of which nothing but options changes.
+ghost use Rattle.std.specs.Option.{option_map};
+ghost use Rattle.std.specs.Prelude.{◌≡◌, ◌≤◌, length, Some, None, IfOk, IfErr, IfSome, MatchOption};
+ghost use Rattle.hurd_trans_iface.specs.HelloKind.{most_text};
+ghost use Rattle.hurd_trans_iface.specs.Meaning.{begin, new_server};
+ghost use Rattle.hurd_trans_iface.specs.Sayings.{IsFit, server_of};
+ghost use Rattle.hurd_small.specs.Fixed.{fixed_meaning};
+ghost use Rattle.hurd_small.specs.FixedKinds.{kind_of, only_fixed};
+
+use crate::fixed::Fixed;
+use crate::fixed_kind::FixedKind;
+use crate::lone::Lone;
+use crate::still::Still;
+use hurd_creds::{Bytes, Errno};
+use hurd_trans_iface::{Begun, Words, begun_by};
+use std::alloc::{AllocError, Global};
+
+/// A server of one node of which nothing but options changes, of one of six kinds.
+pub type FixedServer = Lone<Still<Fixed>>;
+
+/// The kind and the text that words say, lent; none where they make a server of another kind.
+fn fixed_in(begun: Begun<'_>) -> Option<(FixedKind, &[u8])>
+    requires { IsFit begun }
+    ensures is { option_map (λ said. new_server (kind_of said.0) said.1.now) result ≡ only_fixed (Some (server_of begun.entry)) }
+    ensures short { IfSome result (λ said. length said.1.now ≤ most_text) }
+{
+    match begun {
+        Begun::Hello(text) => Some((FixedKind::Hello, text)),
+        Begun::Null => Some((FixedKind::Null, &[])),
+        Begun::Zero => Some((FixedKind::Zero, &[])),
+        Begun::Symlink(path) => Some((FixedKind::Symlink, path)),
+        Begun::Firmlink(path) => Some((FixedKind::Firmlink, path)),
+        Begun::Magic => Some((FixedKind::Magic, b"fd")),
+        Begun::Tmpfs | Begun::Union(_) | Begun::Drip(_) | Begun::Fifo => None,
+    }
+}
+
+impl Lone<Still<Fixed>> {
+    /// The server that these words make, of one of those kinds. It has no root until one is named.
+    ///
+    /// Errors, in order: `EINVAL` other words; `ENOMEM`.
+    pub fn new(alloc: Global, words: &Words) -> Result<FixedServer, Errno>
+        ensures begins { IfOk result (λ s. begin words.now ≡ Some (fixed_meaning s)) }
+        ensures rootless { IfOk result (λ s. (fixed_meaning s).root ≡ None) }
+        ensures err { IfErr result
+            (λ e. MatchOption (only_fixed (begin words.now)) (e ≡ Errno.EINVAL) (λ _. e ≡ Errno.ENOMEM)) }
+    {
+        words.known();
+        let Some(begun) = begun_by(words.as_slice()) else {
+            return Err(Errno::EINVAL);
+        };
+        match fixed_in(begun) {
+            Some((kind, text)) => Ok(FixedServer::of_kind(alloc, kind, text)?),
+            None => Err(Errno::EINVAL),
+        }
+    }
+
+    /// The server of this kind and text. It has no root until one is named.
+    pub fn of_kind(alloc: Global, kind: FixedKind, text: &[u8]) -> Result<FixedServer, AllocError>
+        requires { length text.now ≤ most_text }
+        ensures { IfOk result (λ s. fixed_meaning s ≡ new_server (kind_of kind) text.now) }
+    {
+        Ok(Lone::unnamed(Fixed {
+            kind,
+            text: Bytes::copied(alloc, text)?,
+        }))
+    }
+}

@@ -1,0 +1,70 @@
+-- What servers of one node owe that nothing changes.
+use Rattle.std.proofs.Common.{◌≡◌, ℕ, Bool, true, false, List, nat_lt, refl, ap}
+use Rattle.std.specs.Prelude.{Some, Result, Ok, Err}
+use Rattle.hurd_creds.specs.declared.errno.Errno.{Errno}
+use Rattle.hurd_creds.specs.Memory.{is_no_memory}
+use Rattle.hurd_creds.specs.Limits.{most_size}
+use Rattle.hurd_trans_iface.specs.Nodes.{Body, Content, Listing, Node, is_dir, less_entry, without_entry}
+use Rattle.hurd_trans_iface.specs.Answers.{is_tree}
+use Rattle.hurd_trans_iface.specs.Behaviour.{Effect}
+use Rattle.hurd_trans_iface.specs.Bodies.{HoldsNothing}
+use Rattle.hurd_trans_iface.specs.Good.{GuardsText}
+use Rattle.hurd_trans_iface.specs.Meaning.{empty_body}
+use Rattle.hurd_trans_iface.specs.Still.{StillKind, still, unchanged}
+use Rattle.hurd_trans_iface.proofs.Goodness.{IsFine, fine_done, fine_if}
+use Rattle.hurd_trans_iface.proofs.Owes.{Laws, OptionLaws, SaysAgain}
+use Rattle.hurd_trans_iface.proofs.Shown.{IsKept, Leaves, laws_by, left_kept, treeless}
+
+-- an answer, or a refusal that isn't want of memory
+abbrev pub IsPlainly : {T : Type 0} → Result T Errno → Type 0
+IsPlainly (Ok told) = Unit {0}
+IsPlainly (Err e) = is_no_memory e ≡ false
+
+-- what differs between such kinds
+pub record StillLaws (s : StillKind) : Type 0 where
+  pub rooted : (text : List ℕ) → is_tree (s.root text) ≡ false
+  pub guards : GuardsText (still s)
+  pub gives : (text : List ℕ) (at amount : ℕ) → IsPlainly (s.gives text at amount)
+  pub takes : (bs : List ℕ) → IsPlainly (s.takes bs)
+  pub cut : IsPlainly s.cut
+  pub again : (ws : List (List ℕ)) (text : List ℕ) → s.begins ws ≡ Some text → SaysAgain (still s) text
+  pub options : OptionLaws (still s)
+
+unchanged_fine : {T : Type 0} (r : Result T Errno) → IsPlainly r → IsFine Leaves (unchanged r)
+unchanged_fine (Ok told) plain = (refl, refl)
+unchanged_fine (Err e) plain = plain
+
+empty_holds : (dir : Bool) → HoldsNothing (empty_body dir)
+empty_holds true = refl
+empty_holds false = refl
+
+less_nothing : (name : List ℕ) (c : Body) → HoldsNothing c → HoldsNothing (without_entry name c)
+less_nothing name (Content bs) h = h
+less_nothing name (Listing es) h = ap (less_entry name) h
+
+-- all that such a kind owes
+pub still_laws : (s : StillKind) → StillLaws s → Laws (still s) HoldsNothing
+still_laws s l = laws_by (still s) HoldsNothing (record {
+  named = λ text. refl;
+  rooted = l.rooted;
+  tree = treeless (still s) HoldsNothing refl;
+  begun = λ text. empty_holds (is_dir (s.root text).kind);
+  read = λ at amount text x. kept text x _ (read_fine text at amount);
+  write = λ at bs text x. kept text x _ (unchanged_fine (s.takes bs) (l.takes bs));
+  set_size = λ size text x. kept text x _ (fine_if Leaves (nat_lt most_size size) _ _ (λ long. refl) (λ short. unchanged_fine s.cut l.cut));
+  entered = λ text name n c. refl;
+  removed = λ text name c. refl;
+  less = less_nothing;
+  read_keeps = λ text file x at amount d is. fine_done Leaves (unchanged (s.gives text at amount)) d (read_fine text at amount) is;
+  guards = l.guards;
+  write_blind = λ other text at bs h c e. refl;
+  set_size_blind = λ text size h c e. refl;
+  again = l.again;
+  options = l.options;
+})
+  where
+    read_fine : (text : List ℕ) (at amount : ℕ) → IsFine Leaves (unchanged (s.gives text at amount))
+    read_fine text at amount = unchanged_fine (s.gives text at amount) (l.gives text at amount)
+
+    kept : {T : Type 0} (text : List ℕ) (x : Node) (e : Effect T) → IsFine Leaves e → IsFine (IsKept (still s) HoldsNothing text x) e
+    kept text x e fine = left_kept (still s) HoldsNothing text x e fine

@@ -1,0 +1,22 @@
+-- What a stream of zero bytes owes.
+use Rattle.std.proofs.Common.{refl}
+use Rattle.hurd_trans_iface.specs.Meaning.{Zero}
+use Rattle.hurd_trans_iface.specs.ZeroKind.{zeros, zero_kind}
+use Rattle.hurd_trans_iface.proofs.Guards.{guards_none}
+use Rattle.hurd_trans_iface.proofs.Owes.{Owes, or_none, without_options, none-again}
+use Rattle.hurd_trans_iface.proofs.StillOwes.{still_laws}
+
+pub zero_owes : Owes Zero
+zero_owes = record {
+  named = refl;
+  begins = λ ws. or_none _;
+  laws = still_laws zero_kind (record {
+    rooted = λ text. refl;
+    guards = guards_none zeros (λ old new. refl);
+    gives = λ text at amount. tt;
+    takes = λ bs. tt;
+    cut = tt;
+    again = none-again;
+    options = without_options zeros refl;
+  });
+}
