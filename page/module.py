@@ -4,6 +4,7 @@
 `rattle build` is given the folder of a clang. The clang of the folder that is made here keeps the module that it is given, and then compiles it as the kit's
 own does. Nothing else of the kit is changed, and nothing is made unless the program is proved.
 """
+import functools
 import os
 import shutil
 import subprocess
@@ -40,6 +41,8 @@ def main():
     sys.path.insert(0, f"{at}/bin")
     import rtlib
 
+    # (a library's files are read once, and not once for each way that leads to it)
+    rtlib.Crate.stamp = functools.cache(rtlib.Crate.stamp)
     os.chdir(f"{TOP}/crates/{name}")
     crate = rtlib.Crate(os.getcwd(), TOP, {}, name=None)
     for library in crate.below():

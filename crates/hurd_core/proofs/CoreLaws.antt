@@ -1,7 +1,7 @@
 -- What becomes of one half of the world is what the machine's changes make of all of it.
-use Rattle.std.proofs.Common.{◌≡◌, ◌∙◌, inl, inr, ℕ, Bool, true, false, option_map, List, [], ◌∷◌, Option, Some, None, refl, sym, ap, slice_get, true≢false}
+use Rattle.std.proofs.Common.{◌≡◌, ◌∙◌, ℕ, Bool, true, false, List, [], ◌∷◌, Option, Some, None, refl, sym, ap, slice_get, true≢false}
 use Rattle.std.specs.Prelude.{Result, Ok, Err, is_ok, if◌then◌else◌}
-use Rattle.hurd_machine.proofs.Common.{EBADF, ENOMEM, EOVERFLOW, ESRCH, EditHeader, EditTask, Errno, HeaderEdit, IdSets, IsSettled, Meets, Name, NodeState, OpenFlags, Plan, PortState, Right, Settle, Task, World, answered, apply, apply_all, can_name, closes, closing, deallocate_at, deallocate_step, dropping, edit_header_at, edit_task, edits_if, given, has_room, header_after, insert_at, insert_step, naming_of, on, or_refuse, outside_by, right_at, right_in, room_at, room_of, told, with_edits, with_new_port, without_port, world_from}
+use Rattle.hurd_machine.proofs.Common.{EBADF, EOVERFLOW, ESRCH, EditHeader, EditTask, Errno, HeaderEdit, IdSets, IsSettled, Name, NodeState, OpenFlags, Plan, PortState, Right, Settle, Task, World, answered, apply, apply_all, can_name, closes, closing, deallocate_at, deallocate_step, dropping, edit_header_at, edit_task, edits_if, given, has_room, header_after, insert_at, insert_step, naming_of, on, or_refuse, outside_by, right_at, right_in, room_at, room_of, told, with_edits, with_new_port, without_port, world_from}
 use Rattle.hurd_ports.specs.declared.parents.Parent.{Parent}
 use Rattle.hurd_nodes.specs.Settle as kept
 use Rattle.hurd_ports.specs.Tables.{naming_at, right_of}
@@ -147,11 +147,6 @@ module _ (N : NodeState) (H : PortState) (t : ℕ) where
 
   pub naming-had : (k : ℕ) (u : Unit {0}) → naming_of H t k ≡ Ok u → (x : Task) × (slice_get H.tasks t ≡ Some x) × (can_name k x ≡ true) × (naming_asks w t k ≡ Ok x)
   naming-had k u is = names_free k u (slice_get H.tasks t) refl is
-
-  -- nothing but memory is refused where the task is there
-  pub reserve-lacks : (x : Task) (e : Errno) → slice_get H.tasks t ≡ Some x → Meets (or_refuse ESRCH (option_map (λ (y : Task). tt {0}) (slice_get H.tasks t))) (Err e) → e ≡ ENOMEM
-  reserve-lacks x e at (inl is) = let there : Ok (tt {0}) ≡ Err e = sym (ap (λ (o : Option Task). or_refuse ESRCH (option_map (λ (y : Task). tt {0}) o)) at) ∙ is in absurd (cc)
-  reserve-lacks x e at (inr lacks) = lacks.0
 
   -- a port opened
 

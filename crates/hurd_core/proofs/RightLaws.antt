@@ -42,6 +42,10 @@ module _ {A T : Type 0} (N : NodeState) (H : PortState) (asks : Result A Errno) 
     | BothDo a X did is makes ↦ done a X r K is makes (subst (λ (z : Result T Errno × PortState). Steps H z r K) did s)
   ]
 
+-- a step that is refused isn't done
+not-done : {e : Errno} {k : ℕ} {H K : PortState} → ◌≡◌ {A = Result ℕ Errno × PortState} (Err e, H) (Ok k, K) → ⊥
+not-done did = true≢false (ap (λ (z : Result ℕ Errno × PortState). is_ok z.0) (sym did))
+
 module _ (N : NodeState) (H : PortState) (t : ℕ) where
   abbrev w : World
   w = world_from N H
@@ -55,23 +59,23 @@ module _ (N : NodeState) (H : PortState) (t : ℕ) where
     abbrev opens : Task → List Change
     opens x = porting t x n ids parents modes
 
-    open_by : (o : Option Task) → Alike N H (on ESRCH o (λ x. given EOVERFLOW (has_room 1 x) (Ok x))) opens (λ x. x.next) (insert_at H t n ids parents modes o)
+    open_by : (k : ℕ) (K : PortState) (o : Option Task) → insert_at H t n ids parents modes o ≡ (Ok k, K) → Does w (on ESRCH o (λ x. given EOVERFLOW (has_room 1 x) (Ok x))) opens (λ x. x.next) (Ok k) (world_from N K)
     unfolding on given
-    open_by None = BothRefuse ESRCH refl refl
-    open_by (Some x) = go (has_room 1 x)
+    open_by k K None did = absurd (not-done did)
+    open_by k K (Some x) did = go (has_room 1 x) did
       where
-        go : (b : Bool) → Alike N H (given EOVERFLOW b (Ok x)) opens (λ x. x.next) (if b then (Ok x.next, with_new_port t n ids parents modes x H) else (Err EOVERFLOW, H))
-        go true = BothDo x (with_new_port t n ids parents modes x H) refl refl refl
-        go false = BothRefuse EOVERFLOW refl refl
+        go : (b : Bool) → ◌≡◌ {A = Result ℕ Errno × PortState} (if b then (Ok x.next, with_new_port t n ids parents modes x H) else (Err EOVERFLOW, H)) (Ok k, K) → Does w (given EOVERFLOW b (Ok x)) opens (λ x. x.next) (Ok k) (world_from N K)
+        go true did = let number : ◌≡◌ {A = Result ℕ Errno} (Ok x.next) (Ok k) = ap (λ (z : Result ℕ Errno × PortState). z.0) did in (x, refl, cc, ap (λ (z : Result ℕ Errno × PortState). world_from N z.1) (sym did))
+        go false did = absurd (not-done did)
 
-    pub open-does : (got : Result ℕ Errno) (K : PortState) → Steps H (insert_step t n ids parents modes H) got K → Does w (room_asks w t 1) opens (λ x. x.next) got (world_from N K)
-    open-does got K s = alike-does N H (room_asks w t 1) opens (λ x. x.next) (insert_step t n ids parents modes H) (open_by (slice_get H.tasks t)) got K s
+    pub open-does : (k : ℕ) (K : PortState) → insert_step t n ids parents modes H ≡ (Ok k, K) → Does w (room_asks w t 1) opens (λ x. x.next) (Ok k) (world_from N K)
+    open-does k K did = open_by k K (slice_get H.tasks t) did
 
     -- and counted, where the node's server counts that
-    pub opened-does : (k : ℕ) (K : PortState) (M : NodeState) → Steps H (insert_step t n ids parents modes H) (Ok k) K → M ≡ counted_nodes n (opened_by modes) N
+    pub opened-does : (k : ℕ) (K : PortState) (M : NodeState) → insert_step t n ids parents modes H ≡ (Ok k, K) → M ≡ counted_nodes n (opened_by modes) N
         → Does w (room_asks w t 1) (λ (x : Task). opening w t x n ids parents modes) (λ x. x.next) (Ok k) (world_from M K)
-    opened-does k K M s left =
-        let d = open-does (Ok k) K s in (
+    opened-does k K M did left =
+        let d = open-does k K did in (
           d.0,
           d.1,
           d.2,
@@ -120,20 +124,17 @@ module _ (N : NodeState) (H : PortState) (t : ℕ) where
     abbrev sharing : Task → List Change
     sharing x = EditTask t (with_port r) ∷ []
 
-    abbrev SharesAlike : Option Task → Type 0
-    SharesAlike o = Alike N H (on ESRCH o (λ x. given EOVERFLOW (has_room 0 x) (Ok x))) sharing (λ x. x.next) (share_at H t r o)
-
-    share_by : (o : Option Task) → SharesAlike o
+    share_by : (k : ℕ) (K : PortState) (o : Option Task) → share_at H t r o ≡ (Ok k, K) → Does w (on ESRCH o (λ x. given EOVERFLOW (has_room 0 x) (Ok x))) sharing (λ x. x.next) (Ok k) (world_from N K)
     unfolding on given
-    share_by None = BothRefuse ESRCH refl refl
-    share_by (Some x) = go (has_room 0 x)
+    share_by k K None did = absurd (not-done did)
+    share_by k K (Some x) did = go (has_room 0 x) did
       where
-        go : (b : Bool) → Alike N H (given EOVERFLOW b (Ok x)) sharing (λ x. x.next) (if b then (Ok x.next, changed t (with_port r)) else (Err EOVERFLOW, H))
-        go true = BothDo x (changed t (with_port r)) refl refl refl
-        go false = BothRefuse EOVERFLOW refl refl
+        go : (b : Bool) → ◌≡◌ {A = Result ℕ Errno × PortState} (if b then (Ok x.next, changed t (with_port r)) else (Err EOVERFLOW, H)) (Ok k, K) → Does w (given EOVERFLOW b (Ok x)) sharing (λ x. x.next) (Ok k) (world_from N K)
+        go true did = let number : ◌≡◌ {A = Result ℕ Errno} (Ok x.next) (Ok k) = ap (λ (z : Result ℕ Errno × PortState). z.0) did in (x, refl, cc, ap (λ (z : Result ℕ Errno × PortState). world_from N z.1) (sym did))
+        go false did = absurd (not-done did)
 
-    pub share-does : (got : Result ℕ Errno) (K : PortState) → Steps H (share_step t r H) got K → Does w (room_asks w t 0) sharing (λ x. x.next) got (world_from N K)
-    share-does got K s = alike-does N H (room_asks w t 0) sharing (λ x. x.next) (share_step t r H) (share_by (slice_get H.tasks t)) got K s
+    pub share-does : (k : ℕ) (K : PortState) → share_step t r H ≡ (Ok k, K) → Does w (room_asks w t 0) sharing (λ x. x.next) (Ok k) (world_from N K)
+    share-does k K did = share_by k K (slice_get H.tasks t) did
 
   -- a right sent
 

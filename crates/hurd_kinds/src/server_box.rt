@@ -3,7 +3,7 @@ ghost use Rattle.std.specs.Prelude.{◌≡◌, ◌≤◌, length, IfOk};
 ghost use Rattle.std.specs.Option.{option_map};
 ghost use Rattle.hurd_trans_iface.specs.HelloKind.{most_text};
 ghost use Rattle.hurd_trans_iface.specs.Meaning.{begin, new_server};
-ghost use Rattle.hurd_trans_iface.specs.Sayings.{IsFit, server_of};
+ghost use Rattle.hurd_trans_iface.specs.Sayings.{IsFit, server_said};
 ghost use Rattle.hurd_small.specs.FixedKinds.{kind_of};
 ghost use Rattle.hurd_tmpfs.specs.Tree.{new_tmpfs, tree};
 ghost use Rattle.hurd_kinds.specs.Boxes.{box_meaning};
@@ -38,7 +38,7 @@ fn fixed(alloc: Global, kind: FixedKind, text: &[u8]) -> Result<ServerBox, Alloc
 #[tactic(auto, unfolding(crate::specs::Boxes::box_meaning))]
 fn boxed(alloc: Global, begun: Begun<'_>) -> Result<ServerBox, AllocError>
     requires { IsFit begun }
-    ensures { IfOk result (λ server. box_meaning server ≡ server_of begun.entry) }
+    ensures { IfOk result (λ server. box_meaning server ≡ server_said begun.entry) }
 {
     Ok(match begun {
         Begun::Tmpfs => ServerBox::Tmpfs(empty_tree(alloc)?),

@@ -1,11 +1,11 @@
 //! The tables of all tasks, and the opens.
-ghost use Rattle.std.specs.Prelude.{◌≡◌, ◌≤◌, ◌<◌, Bool, Some, None, Ok, Err, if◌then◌else◌, length, map, nat_lt, option_copied, slice_get, IfOk, IsSomeAnd};
+ghost use Rattle.std.specs.Prelude.{◌≡◌, ◌≤◌, ◌<◌, Bool, Some, None, Ok, Err, if◌then◌else◌, length, map, nat_lt, option_copied, slice_get, IfErr, IfOk, IsSomeAnd};
 ghost use Rattle.std.specs.Option.{option_map};
 ghost use Rattle.std.specs.FinMap as fin;
 ghost use Rattle.hurd_creds.specs.Limits.{most_tasks};
 ghost use Rattle.hurd_creds.specs.Memory.{Meets, Steps};
 ghost use Rattle.hurd_creds.specs.declared.errno.Errno.{Errno};
-ghost use Rattle.hurd_ports.specs.Tables.{IsSettled, count_rights, fresh, ids_at, io_right_of, is_controlled, is_named, lent, names_open, naming_of, or_refuse, pending_of, right_of, room_of, uses_node};
+ghost use Rattle.hurd_ports.specs.Tables.{IsSettled, count_rights, fresh, ids_at, io_right_of, is_controlled, is_named, lent, names_open, naming_of, pending_of, right_of, room_of, uses_node};
 ghost use Rattle.hurd_ports.specs.declared.table.Right.{Right};
 ghost use Rattle.hurd_ports.specs.Steps as step;
 ghost use Rattle.hurd_ports.specs.Counts as counts;
@@ -275,15 +275,14 @@ impl Ports {
     /// Takes the memory for the task's next port, its open and what it names. It lasts until any port is filled or given up, a right
     /// is shared, sent or received, a start is pended or no longer so, or memory is reserved anew.
     ///
-    /// Errors, in order: `ESRCH` no such task, `ENOMEM`.
+    /// `ENOMEM`.
     pub fn reserve(&mut self, task: TaskId) -> Result<(), Errno>
-        ensures answer { Meets (or_refuse Errno.ESRCH (option_map (λ _. tt) (slice_get self.old.state.tasks task.0))) result }
+        requires { task.0 < length self.old.state.tasks }
         ensures ready { IfOk result (λ _. self.new.ready ≡ Some task.0) }
+        ensures err { IfErr result (λ e. e ≡ Errno.ENOMEM) }
         ensures kept { self.new.state ≡ self.old.state }
+        ensures settled { IsSettled self.new.state }
     {
-        if task.0 as usize >= self.tasks.len() {
-            return Err(Errno::ESRCH);
-        }
         self.ready = None;
         let Ok(()) = self.opens.reserve(1) else {
             return Err(Errno::ENOMEM);
@@ -329,9 +328,9 @@ impl Ports {
         number
     }
 
-    /// A port of the task on the node, with an open of its own; answers its number, the task's next.
+    /// A port of the task on the node, with an open of its own; answers its number, the task's next. There is room for it.
     ///
-    /// Errors, in order: `ESRCH` no such task, `EOVERFLOW`, `ENOMEM`. A refused call changes no port.
+    /// `ENOMEM`, and no port changes.
     pub fn insert(
         &mut self,
         task: TaskId,
@@ -340,29 +339,27 @@ impl Ports {
         parents: Parents,
         modes: OpenFlags,
     ) -> Result<u64, Errno>
-        ensures answer { Steps self.old.state (step.insert_step task.0 node ids parents modes self.old.state) result self.new.state }
+        requires { room_of self.old.state task.0 1 ≡ Ok tt }
+        ensures ok { IfOk result (λ number. step.insert_step task.0 node ids parents modes self.old.state ≡ (Ok number, self.new.state)) }
+        ensures err { IfErr result (λ e. (e ≡ Errno.ENOMEM) × (self.new.state ≡ self.old.state)) }
         ensures new { IfOk result (λ number. right_of self.old.state task.0 number ≡ Err Errno.EBADF) }
         ensures settled { IsSettled self.new.state }
     {
-        self.room(task, 1)?;
         self.reserve(task)?;
         Ok(self.fill(task, node, ids, parents, modes))
     }
 
-    /// A port more of the task, with this right, whose open is another's too; answers its number, the task's next.
+    /// A port more of the task, with this right, whose open is another's too; answers its number, the task's next. There is
+    /// room for it.
     ///
-    /// Errors, in order: `ESRCH` no such task, `EOVERFLOW`, `ENOMEM`. A refused call changes no port.
+    /// `ENOMEM`, and no port changes.
     pub fn share(&mut self, task: TaskId, right: Right) -> Result<u64, Errno>
-        ensures answer { Steps self.old.state (step.share_step task.0 right self.old.state) result self.new.state }
+        requires { room_of self.old.state task.0 0 ≡ Ok tt }
+        ensures ok { IfOk result (λ number. step.share_step task.0 right self.old.state ≡ (Ok number, self.new.state)) }
+        ensures err { IfErr result (λ e. (e ≡ Errno.ENOMEM) × (self.new.state ≡ self.old.state)) }
         ensures new { IfOk result (λ number. right_of self.new.state task.0 number ≡ Ok right) }
         ensures settled { IsSettled self.new.state }
     {
-        let Some(seat) = self.tasks.get(task.0 as usize) else {
-            return Err(Errno::ESRCH);
-        };
-        if !seat.has_room(0) {
-            return Err(Errno::EOVERFLOW);
-        }
         self.ready = None;
         let Ok(()) = self.book.reserve() else {
             return Err(Errno::ENOMEM);

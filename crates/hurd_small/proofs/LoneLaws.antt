@@ -7,17 +7,15 @@ use Rattle.hurd_creds.specs.Memory.{Steps}
 use Rattle.hurd_creds.specs.NameMaps.{NameMap, map_values}
 use Rattle.hurd_creds.specs.Names.{name_cmp, same_name}
 use Rattle.hurd_creds.specs.declared.name.Name.{Name}
-use Rattle.hurd_creds.specs.declared.attrs.Kind.{Kind}
 use Rattle.hurd_creds.specs.declared.errno.Errno.{Errno}
 use Rattle.hurd_creds.specs.declared.errno.Errno.TheVariants.{ENOTDIR, EROFS}
 use Rattle.hurd_creds.proofs.NameLaws.{equal_if_same, apart_if_not_same, same_or_apart, same_map_by, get_here, get_apart, remove_here, remove_apart, insert-insert}
 use Rattle.hurd_creds.proofs.MapLaws.{map_values-empty, map_values-insert}
 use Rattle.hurd_creds.proofs.StepLaws.{steps-inside, steps-refused}
 use Rattle.hurd_trans_iface.specs.declared.header_edit.HeaderEdit.{HeaderEdit}
-use Rattle.hurd_trans_iface.specs.declared.new_node.NewNode.{NewNode}
-use Rattle.hurd_trans_iface.specs.Nodes.{AllListed, Body, Node, NodeMap, Edit, body_of, is_dir, is_entered_at, passive_of, with_header, with_size}
-use Rattle.hurd_trans_iface.specs.Answers.{entry_of, make_of, make_edits, link_of, link_edits, unlink_of, unlink_edits, rename_of, rename_edits, edits_if, header_edited}
-use Rattle.hurd_trans_iface.specs.Meaning.{Meaning, ServerKind, behaviour_of, root_of, keeps_tree, empty_body, new_root, begin_root_after, edited, step_of, options_taken, set_options_step, size_of, make_step, link_step, unlink_step, rename_step, forget_after, edits_header, edit_header_step}
+use Rattle.hurd_trans_iface.specs.Nodes.{AllListed, Body, Node, NodeMap, body_of, is_dir, is_entered_at, passive_of, with_header, with_size}
+use Rattle.hurd_trans_iface.specs.Answers.{entry_of, unlink_of, header_edited}
+use Rattle.hurd_trans_iface.specs.Meaning.{Meaning, ServerKind, behaviour_of, root_of, keeps_tree, empty_body, new_root, begin_root_after, step_of, options_taken, set_options_step, size_of, unlink_step, forget_after, edits_header, edit_header_step}
 use Rattle.hurd_trans_iface.specs.Behaviour.{Effect, Question, told_of, served}
 use Rattle.hurd_trans_iface.specs.Good.{KeepsRoot}
 use Rattle.hurd_trans_iface.proofs.Goods.{good}
@@ -62,15 +60,7 @@ no_nodes = fin.empty
 pub find-none : (n : Name) → None ≡ fin.get no_nodes n
 find-none n = sym (fin.get-empty {X = Node} name_cmp n)
 
--- a refusal changes nothing
-
-abbrev answered_by : Meaning → List Edit → Result (Unit {0}) Errno → Result (Unit {0}) Errno × Meaning
-answered_by m es answer = (answer, edited (edits_if answer es) m)
-
-refused : (m : Meaning) (es : List Edit) (answer : Result (Unit {0}) Errno) (e : Errno) → answer ≡ Err e → answered_by m es answer ≡ (Err e, m)
-refused m es answer e is = ap (answered_by m es) is
-
--- where no tree is kept nothing is made
+-- where no tree is kept no entry goes
 
 abbrev IsBarred : Bool → Type 0
 IsBarred b = (let r : Result (Unit {0}) Errno = if not b then Err ENOTDIR else Err EROFS in r) ≡ Err (if b then EROFS else ENOTDIR)
@@ -79,22 +69,9 @@ barred_if : (b : Bool) → IsBarred b
 barred_if true = refl
 barred_if false = refl
 
-module _ (keeps : Bool) (no_tree : keeps ≡ false) where
-  make-plain : (entry : Option (List ℕ)) (kind : Kind) (o : Option Node) → make_of keeps entry kind o ≡ Err (barred_by o)
-  make-plain entry kind None = refl
-  make-plain entry kind (Some d) = rw no_tree (barred_if (is_dir d.header.kind))
-
-  link-plain : (name : List ℕ) (kin : Bool) (o x : Option Node) → link_of keeps name kin o x ≡ Err (barred_by o)
-  link-plain name kin None x = refl
-  link-plain name kin (Some d) x = rw no_tree (barred_if (is_dir d.header.kind))
-
-  unlink-plain : (name : List ℕ) (o : Option Node) → unlink_of keeps name o ≡ Err (barred_by o)
-  unlink-plain name None = refl
-  unlink-plain name (Some d) = rw no_tree (barred_if (is_dir d.header.kind))
-
-  rename-plain : (name : List ℕ) (kin : Bool) (o t : Option Node) → rename_of keeps name kin o t ≡ Err (barred_by o)
-  rename-plain name kin None t = refl
-  rename-plain name kin (Some d) t = rw no_tree (barred_if (is_dir d.header.kind))
+unlink-plain : (keeps : Bool) → keeps ≡ false → (name : List ℕ) (o : Option Node) → unlink_of keeps name o ≡ Err (barred_by o)
+unlink-plain keeps no_tree name None = refl
+unlink-plain keeps no_tree name (Some d) = rw no_tree (barred_if (is_dir d.header.kind))
 
 -- a directory without entries, or no directory
 
@@ -152,28 +129,9 @@ module _ (kind : ServerKind) (text : List ℕ) (held : Kept) where
   ]
 
   -- where no tree is kept
-
-  module _ (p : Presence) (n : Name) (no_tree : keeps_tree kind ≡ false) where
-    abbrev m : Meaning
-    m = lone_meaning kind text held p
-
-    module _ (e : Errno) (is : e ≡ barred_by (at p n)) where
-      pub make-barred : (entry : Option (List ℕ)) (new : NewNode) → Steps m (make_step n entry new m) (Err e) m
-      make-barred entry new =
-          rw is (steps-refused _ m _ (refused m (make_edits n entry new) _ _ (make-plain (keeps_tree kind) no_tree entry new.kind (at p n))))
-
-      pub link-barred : (name : List ℕ) (node : Name) → Steps m (link_step n name node m) (Err e) m
-      link-barred name node =
-          rw is (steps-refused _ m _ (refused m (link_edits n name node) _ _ (link-plain (keeps_tree kind) no_tree name true (at p n) (at p node))))
-
-      pub unlink-barred : (name : List ℕ) → (Err e, m) ≡ unlink_step n name m
-      unlink-barred name =
-          rw is (sym (refused m (unlink_edits n name (entry_of name (body_of m.nodes n))) _ _ (unlink-plain (keeps_tree kind) no_tree name (at p n))))
-
-      pub rename-barred : (name : List ℕ) (to : Name) (new : List ℕ) → Steps m (rename_step n name to new m) (Err e) m
-      rename-barred name to new =
-          rw is (steps-refused _ m _ (refused m (rename_edits n name to new (entry_of name (body_of m.nodes n)) (entry_of new (body_of m.nodes to))) _ _
-          (rename-plain (keeps_tree kind) no_tree name true (at p n) (at p to))))
+  pub unlink-barred : (p : Presence) (n : Name) → keeps_tree kind ≡ false → (e : Errno) → e ≡ barred_by (at p n) → (name : List ℕ)
+      → (let m = lone_meaning kind text held p in (Err e, m) ≡ unlink_step n name m)
+  unlink-barred p n no_tree e is name = rw (is, unlink-plain (keeps_tree kind) no_tree name (at p n)) refl
 
   -- the node goes when it is forgotten, and not when another one is
 

@@ -3,7 +3,7 @@ ghost use Rattle.std.specs.Option.{option_map};
 ghost use Rattle.std.specs.Prelude.{◌≡◌, ◌≤◌, length, Some, None, IfOk, IfErr, IfSome, MatchOption};
 ghost use Rattle.hurd_trans_iface.specs.HelloKind.{most_text};
 ghost use Rattle.hurd_trans_iface.specs.Meaning.{begin, new_server};
-ghost use Rattle.hurd_trans_iface.specs.Sayings.{IsFit, server_of};
+ghost use Rattle.hurd_trans_iface.specs.Sayings.{IsFit, server_said};
 ghost use Rattle.hurd_small.specs.Fixed.{fixed_meaning};
 ghost use Rattle.hurd_small.specs.FixedKinds.{kind_of, only_fixed};
 
@@ -21,7 +21,7 @@ pub type FixedServer = Lone<Still<Fixed>>;
 /// The kind and the text that words say, lent; none where they make a server of another kind.
 fn fixed_in(begun: Begun<'_>) -> Option<(FixedKind, &[u8])>
     requires { IsFit begun }
-    ensures is { option_map (λ said. new_server (kind_of said.0) said.1.now) result ≡ only_fixed (Some (server_of begun.entry)) }
+    ensures is { option_map (λ said. new_server (kind_of said.0) said.1.now) result ≡ only_fixed (Some (server_said begun.entry)) }
     ensures short { IfSome result (λ said. length said.1.now ≤ most_text) }
 {
     match begun {

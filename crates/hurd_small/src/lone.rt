@@ -145,21 +145,21 @@ impl<K: Keeper> Server for Lone<K> {
     fn make(
         &mut self,
         _alloc: Global,
-        dir: NodeName,
+        _dir: NodeName,
         _entry: Option<&[u8]>,
         _new: NewNode,
     ) -> Result<(), Errno> {
-        Err(self.bars(dir))
+        Err(Errno::EROFS)
     }
 
     fn link(
         &mut self,
         _alloc: Global,
-        dir: NodeName,
+        _dir: NodeName,
         _name: &[u8],
         _node: NodeName,
     ) -> Result<(), Errno> {
-        Err(self.bars(dir))
+        Err(Errno::EROFS)
     }
 
     fn unlink(&mut self, dir: NodeName, _name: &[u8]) -> Result<(), Errno> {
@@ -169,12 +169,12 @@ impl<K: Keeper> Server for Lone<K> {
     fn rename(
         &mut self,
         _alloc: Global,
-        dir: NodeName,
+        _dir: NodeName,
         _name: &[u8],
         _to: NodeName,
         _new: &[u8],
     ) -> Result<(), Errno> {
-        Err(self.bars(dir))
+        Err(Errno::EROFS)
     }
 
     fn passive(&self, _node: NodeName) -> Option<&Words> {

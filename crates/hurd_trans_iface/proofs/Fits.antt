@@ -4,7 +4,7 @@ use Rattle.std.specs.Prelude.{Option, Some, None, IfSome}
 use Rattle.std.specs.Option.{option_map}
 use Rattle.hurd_trans_iface.specs.declared.begun.Begun.{Begun}
 use Rattle.hurd_trans_iface.specs.declared.begun.Begun.TheVariants as said
-use Rattle.hurd_trans_iface.specs.Sayings.{IsFit, server_of}
+use Rattle.hurd_trans_iface.specs.Sayings.{IsFit, server_said}
 use Rattle.hurd_trans_iface.specs.Meaning.{Hello, Symlink, Firmlink, Union, Drip, begin}
 use Rattle.hurd_trans_iface.specs.UnionKind.{text_of}
 use Rattle.hurd_trans_iface.specs.Words.{IsWithinLimits}
@@ -15,7 +15,7 @@ use Rattle.hurd_trans_iface.proofs.FirmlinkOwes.{firm-short}
 use Rattle.hurd_trans_iface.proofs.UnionOwes.{paths-same}
 use Rattle.hurd_trans_iface.proofs.DripOwes.{drops-said}
 
-fits : (w : List ℕ) (ws : List (List ℕ)) (b : Begun) → begin (w ∷ ws) ≡ Some (server_of b) → IsWithinLimits (w ∷ ws) → IsFit b
+fits : (w : List ℕ) (ws : List (List ℕ)) (b : Begun) → begin (w ∷ ws) ≡ Some (server_said b) → IsWithinLimits (w ∷ ws) → IsFit b
 fits w ws said.Tmpfs h within = tt
 fits w ws (said.Hello text) h within = let s = begins-said Hello w ws text.now h in text-short w ws text.now within s.0 s.1
 fits w ws said.Null h within = tt
@@ -29,7 +29,7 @@ fits w ws said.Magic h within = tt
 fits w ws (said.Drip digits) h within = drops-said ws digits.now (begins-said Drip w ws digits.now h).1
 fits w ws said.Fifo h within = tt
 
-pub begun-fits : (ws : List (List ℕ)) (o : Option Begun) → option_map server_of o ≡ begin ws → IsWithinLimits ws → IfSome o IsFit
+pub begun-fits : (ws : List (List ℕ)) (o : Option Begun) → option_map server_said o ≡ begin ws → IsWithinLimits ws → IfSome o IsFit
 begun-fits ws None h within = tt
 begun-fits [] (Some b) h within = absurd (cc)
 begun-fits (w ∷ ws) (Some b) h within = fits w ws b (sym h) within

@@ -10,17 +10,17 @@ use Rattle.hurd_trans_iface.specs.UnionKind.{text_of}
 use Rattle.hurd_trans_iface.specs.Words.{IsWithinLimits}
 
 -- the server that they make: its kind is the one that they name, its text is what they say to it
-abbrev pub server_of : Begun → Meaning
-server_of said.Tmpfs = new_server Tmpfs []
-server_of (said.Hello text) = new_server Hello text.now
-server_of said.Null = new_server Null []
-server_of said.Zero = new_server Zero []
-server_of (said.Symlink path) = new_server Symlink path.now
-server_of (said.Firmlink path) = new_server Firmlink path.now
-server_of (said.Union paths) = new_server Union (text_of paths.now)
-server_of said.Magic = new_server Magic (codes "fd")
-server_of (said.Drip digits) = new_server Drip digits.now
-server_of said.Fifo = new_server Fifo []
+abbrev pub server_said : Begun → Meaning
+server_said said.Tmpfs = new_server Tmpfs []
+server_said (said.Hello text) = new_server Hello text.now
+server_said said.Null = new_server Null []
+server_said said.Zero = new_server Zero []
+server_said (said.Symlink path) = new_server Symlink path.now
+server_said (said.Firmlink path) = new_server Firmlink path.now
+server_said (said.Union paths) = new_server Union (text_of paths.now)
+server_said said.Magic = new_server Magic (codes "fd")
+server_said (said.Drip digits) = new_server Drip digits.now
+server_said said.Fifo = new_server Fifo []
 
 -- what they say is no more than the kind takes: within its own limits, and those of words
 abbrev pub IsFit : Begun → Type 0

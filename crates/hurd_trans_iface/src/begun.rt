@@ -2,7 +2,7 @@
 ghost use Rattle.std.specs.List.{list_all};
 ghost use Rattle.std.specs.Option.{option_map};
 ghost use Rattle.std.specs.Prelude.{◌≡◌, ◌∷◌, ℕ, List, Some, Ok, IfSome, codes, is_some};
-ghost use Rattle.hurd_trans_iface.specs.Sayings.{IsFit, server_of};
+ghost use Rattle.hurd_trans_iface.specs.Sayings.{IsFit, server_said};
 ghost use Rattle.hurd_trans_iface.specs.HelloKind.{behind, hello_text};
 ghost use Rattle.hurd_trans_iface.specs.Meaning.{Meaning, ServerKind, Hello, Symlink, Firmlink, Union, Magic, Drip, behaviour_of, begin, begin_as, new_server, options_of};
 ghost use Rattle.hurd_trans_iface.specs.SymlinkKind.{target_text};
@@ -51,7 +51,7 @@ pub enum Begun<'a> {
 
 /// What the words behind a program's name say to a kind that wants none.
 fn alone<'a>(kind: Begun<'a>, arguments: &[Bytes]) -> Option<Begun<'a>>
-    ensures { option_map server_of result ≡ option_map (λ _. server_of kind.entry) (no_text arguments.now) }
+    ensures { option_map server_said result ≡ option_map (λ _. server_said kind.entry) (no_text arguments.now) }
 {
     match arguments {
         [] => Some(kind),
@@ -68,7 +68,7 @@ pub fn contents_in(word: &[u8]) -> Option<&[u8]>
 
 /// What the words behind `/hurd/hello` say: nothing, or one `--contents=` with a text behind it.
 fn hello(arguments: &[Bytes]) -> Option<Begun<'_>>
-    ensures { option_map server_of result ≡ option_map (new_server Hello) (hello_text arguments.now) }
+    ensures { option_map server_said result ≡ option_map (new_server Hello) (hello_text arguments.now) }
 {
     match arguments {
         [] => Some(Begun::Hello(b"Hello, world!\n".as_slice())),
@@ -79,7 +79,7 @@ fn hello(arguments: &[Bytes]) -> Option<Begun<'_>>
 
 /// What the words behind `/hurd/symlink` say: one path of 1 to 1,024 bytes.
 fn symlink(arguments: &[Bytes]) -> Option<Begun<'_>>
-    ensures { option_map server_of result ≡ option_map (new_server Symlink) (target_text arguments.now) }
+    ensures { option_map server_said result ≡ option_map (new_server Symlink) (target_text arguments.now) }
 {
     match arguments {
         [path] if !path.is_empty() && path.len() <= MOST_PATH => {
@@ -98,7 +98,7 @@ pub fn is_firm(path: &Bytes) -> bool
 
 /// What the words behind `/hurd/firmlink` say: one path from the root of the tree.
 fn firmlink(arguments: &[Bytes]) -> Option<Begun<'_>>
-    ensures { option_map server_of result ≡ option_map (new_server Firmlink) (firm_text arguments.now) }
+    ensures { option_map server_said result ≡ option_map (new_server Firmlink) (firm_text arguments.now) }
 {
     match arguments {
         [path] if is_firm(path) => Some(Begun::Firmlink(path.as_slice())),
@@ -125,7 +125,7 @@ pub fn says_targets(arguments: &[Bytes]) -> bool
 
 /// What the words behind `/hurd/union` say: 1 to 16 such paths.
 fn union(arguments: &[Bytes]) -> Option<Begun<'_>>
-    ensures { option_map server_of result ≡ option_map (new_server Union) (union_text arguments.now) }
+    ensures { option_map server_said result ≡ option_map (new_server Union) (union_text arguments.now) }
 {
     if !says_targets(arguments) {
         return None;
@@ -135,7 +135,7 @@ fn union(arguments: &[Bytes]) -> Option<Begun<'_>>
 
 /// What the words behind `/hurd/magic` say: `fd` alone.
 fn magic(arguments: &[Bytes]) -> Option<Begun<'_>>
-    ensures { option_map server_of result ≡ option_map (new_server Magic) (magic_text arguments.now) }
+    ensures { option_map server_said result ≡ option_map (new_server Magic) (magic_text arguments.now) }
 {
     match arguments {
         [what] if what.is(b"fd") => Some(Begun::Magic),
@@ -167,7 +167,7 @@ pub fn says_drops(digits: &[u8]) -> bool
 
 /// What the words behind `/hurd/drip` say: how many bytes it has.
 fn drip(arguments: &[Bytes]) -> Option<Begun<'_>>
-    ensures { option_map server_of result ≡ option_map (new_server Drip) (drip_text arguments.now) }
+    ensures { option_map server_said result ≡ option_map (new_server Drip) (drip_text arguments.now) }
 {
     match arguments {
         [digits] if says_drops(digits.as_slice()) => Some(Begun::Drip(digits.as_slice())),
@@ -177,7 +177,7 @@ fn drip(arguments: &[Bytes]) -> Option<Begun<'_>>
 
 /// What the words behind the name of this program say.
 fn named<'a>(program: &Bytes, arguments: &'a [Bytes]) -> Option<Begun<'a>>
-    ensures { option_map server_of result ≡ begin (program.now ∷ arguments.now) }
+    ensures { option_map server_said result ≡ begin (program.now ∷ arguments.now) }
 {
     if program.is(b"/hurd/tmpfs") {
         alone(Begun::Tmpfs, arguments)
@@ -206,8 +206,8 @@ fn named<'a>(program: &Bytes, arguments: &'a [Bytes]) -> Option<Begun<'a>>
 
 /// The server that these words make, by its kind and by what they say to it; none where no kind takes them.
 pub fn begun_by(words: &[Bytes]) -> Option<Begun<'_>>
-    ensures begins { option_map server_of result ≡ begin words.now }
-    ensures kind { IfSome result (λ b. begin_as (server_of b).kind words.now ≡ Some (server_of b)) }
+    ensures begins { option_map server_said result ≡ begin words.now }
+    ensures kind { IfSome result (λ b. begin_as (server_said b).kind words.now ≡ Some (server_said b)) }
     ensures fit { IsWithinLimits words.now → IfSome result IsFit }
 {
     match words {

@@ -4,9 +4,9 @@ ghost use Rattle.std.specs.Option.{option_map};
 ghost use Rattle.std.specs.FinMap as fin;
 ghost use Rattle.hurd_creds.specs.Memory.{Meets, Steps};
 ghost use Rattle.hurd_trans_iface.specs.Nodes.{AllListed, Reaches, attrs_of, body_of, content_of, passive_of};
-ghost use Rattle.hurd_trans_iface.specs.Answers.{entry_of, names_of};
+ghost use Rattle.hurd_trans_iface.specs.Answers.{entry_of, names_of, make_of, link_of, rename_of};
 ghost use Rattle.hurd_trans_iface.specs.Behaviour.{reading, writing, resizing};
-ghost use Rattle.hurd_trans_iface.specs.Meaning.{Meaning, root_of, options_of, targets_of, begin_root_after, step_of, set_options_step, make_step, link_step, unlink_step, rename_step, edit_header_step, forget_after, readable_of, counts_opens};
+ghost use Rattle.hurd_trans_iface.specs.Meaning.{Meaning, root_of, options_of, targets_of, begin_root_after, step_of, set_options_step, make_step, link_step, unlink_step, rename_step, edit_header_step, forget_after, readable_of, counts_opens, keeps_tree};
 
 use crate::header_edit::HeaderEdit;
 use crate::names::Names;
@@ -102,9 +102,9 @@ pub trait Server: Drop {
     fn readable(&self, node: NodeName, at: u64) -> Option<u64>
         ensures { result ≡ readable_of (meaning self.now) node at };
 
-    /// Makes a node in a directory: under a name, or without an entry, so that it is like one that has lost its only one.
+    /// Makes a node in a directory: under a name, or without an entry, so that it is like one that has lost its only one. Whether it may be made is for who asks.
     ///
-    /// Errors, in order: `EDIED` no such directory, `ENOTDIR`, `EROFS` the server keeps no tree, `EEXIST`, `EOPNOTSUPP` a kind that the server doesn't make, `ENOMEM`.
+    /// Errors: `ENOMEM`.
     fn make(
         &mut self,
         alloc: Global,
@@ -112,12 +112,12 @@ pub trait Server: Drop {
         entry: Option<&[u8]>,
         new: NewNode,
     ) -> Result<(), Errno>
+        requires { let m = meaning self.old in make_of (keeps_tree m.kind) (option_copied entry) new.kind (fin.get m.nodes dir) ≡ Ok tt }
         ensures { Steps (meaning self.old) (make_step dir (option_copied entry.entry) new (meaning self.old)) result (meaning self.new) };
 
-    /// Gives a file another name in a directory.
+    /// Gives a file another name in a directory. Whether it may get one is for who asks.
     ///
-    /// Errors, in order: `EDIED` no such directory, `ENOTDIR`, `EROFS` the server keeps no tree, `EDIED` no such node, `EISDIR` it is a directory, `EEXIST`, `EOVERFLOW`
-    /// it has 4,294,967,295 links, `ENOMEM`.
+    /// Errors: `ENOMEM`.
     fn link(
         &mut self,
         alloc: Global,
@@ -125,6 +125,7 @@ pub trait Server: Drop {
         name: &[u8],
         node: NodeName,
     ) -> Result<(), Errno>
+        requires { let m = meaning self.old in link_of (keeps_tree m.kind) name.now true (fin.get m.nodes dir) (fin.get m.nodes node) ≡ Ok tt }
         ensures { Steps (meaning self.old) (link_step dir name.now node (meaning self.old)) result (meaning self.new) };
 
     /// Takes the first entry of a name out of a directory: of what it names, a directory loses its parent, and any other node a link. Whether that is a directory, and
@@ -135,9 +136,10 @@ pub trait Server: Drop {
         ensures { (result, meaning self.new) ≡ unlink_step dir name.now (meaning self.old) };
 
     /// Takes the first entry `name` out of a directory and puts it last into another one, or the same, as `new`: in the place of the entry of that name, where there is
-    /// one, whose node loses it as by `unlink`. A directory gets its new parent. Where both entries name one node nothing changes. What the two nodes are is for who asks.
+    /// one, whose node loses it as by `unlink`. A directory gets its new parent. Where both entries name one node nothing changes. Whether the entry may go,
+    /// and what the two nodes are, is for who asks.
     ///
-    /// Errors, in order: `EDIED` no such directory, `ENOTDIR`, `EROFS` the server keeps no tree, `EDIED` no such directory `to`, `ENOTDIR`, `ENOENT`, `ENOMEM`.
+    /// Errors: `ENOMEM`.
     fn rename(
         &mut self,
         alloc: Global,
@@ -146,6 +148,7 @@ pub trait Server: Drop {
         to: NodeName,
         new: &[u8],
     ) -> Result<(), Errno>
+        requires { let m = meaning self.old in rename_of (keeps_tree m.kind) name.now true (fin.get m.nodes dir) (fin.get m.nodes to) ≡ Ok tt }
         ensures { Steps (meaning self.old) (rename_step dir name.now to new.now (meaning self.old)) result (meaning self.new) };
 
     /// The words of the passive translator of a node, lent, if the server has the node and there are any. Takes no memory.

@@ -1,14 +1,13 @@
 -- Room, leave, memory, the server's making, the port: each refusal in its place, and then the machine's making.
-use Rattle.std.proofs.Common.{Bool, ◌≡◌, ℕ, true, refl, sym, inl, ap, ap₂, arith}
-use Rattle.std.specs.Prelude.{Ok, Result}
+use Rattle.std.proofs.Common.{Bool, ◌≡◌, true, refl, sym, inl, ap, ap₂, arith}
 use Rattle.hurd_creds.proofs.NameLaws.{same_name-itself}
-use Rattle.hurd_machine.proofs.Common.{Errno, File, NodeState, PortState, Right, count_rights, home_in, is_home, shown, uses_node, uses_server, world_from}
+use Rattle.hurd_machine.proofs.Common.{File, NodeState, Right, count_rights, home_in, is_home, shown, uses_node, uses_server, world_from}
 use Rattle.hurd_core.proofs.RightLaws.{open-does}
 use Rattle.hurd_machine.proofs.Tasks.{count_named}
 use Rattle.hurd_core.proofs.UserLaws.{inserted_counts, rehoused, unhoused_fits, users_still}
+use Rattle.std.proofs.lemmas.Option.{slice_get_within}
 use Rattle.std.proofs.lemmas.Result.{err_from_is_err_and}
 use Rattle.hurd_core.specs.ToMake.{new_node_of}
-use Rattle.hurd_core.proofs.CoreLaws.{reserve-lacks}
 use Rattle.hurd_core.proofs.MakingLaws.{no-room, not-made, makes, room-left, make-lacks, made-apart, lacks-memory, file-made}
 use Rattle.hurd_core.proofs.the_core.Core.make_file.Goals as goal
 
@@ -25,6 +24,11 @@ returns-in_err-can_make g c =
     rw (p.1, p.2, ← c.self.view_is)
     (refl, inl (not-made N c.self.inside.ports.state c.args.task.0 (new_node_of c.args.file) _ (sym c.in_ok-room.ensures.room) (sym c.in_err-can_make.ensures)))
 
+pub reserve-requires : goal.reserve-requires
+reserve-requires g c =
+    let m = makes (shown g.S.Server.meaning c.self.inside.nodes) c.self.inside.ports.state c.args.task.0 (new_node_of c.args.file) (sym c.in_ok-room.ensures.room) (sym c.in_ok-can_make.ensures) in
+    slice_get_within _ _ _ m.there
+
 pub returns-in_err-reserve : goal.returns-in_err-reserve
 returns-in_err-reserve g c =
     let N = shown g.S.Server.meaning c.self.inside.nodes in
@@ -33,7 +37,7 @@ returns-in_err-reserve g c =
     let m = makes N H c.args.task.0 f (sym c.in_ok-room.ensures.room) (sym c.in_ok-can_make.ensures) in
     let p = err_from_is_err_and c.from_residual-in_err-reserve.result c.from_residual-in_err-reserve.ensures.1 in
     rw (p.1, p.2, ← c.self.view_is)
-    (lacks-memory N H c.args.task.0 f m _ _ (ap (world_from N) c.in_err-reserve.ensures.kept) (reserve-lacks N H c.args.task.0 m.task _ m.there c.in_err-reserve.ensures.answer) c.args.ids c.args.parents c.args.modes)
+    (lacks-memory N H c.args.task.0 f m _ _ (ap (world_from N) c.in_err-reserve.ensures.kept) c.in_err-reserve.ensures.err c.args.ids c.args.parents c.args.modes)
 
 pub returns-in_err-make : goal.returns-in_err-make
 returns-in_err-make g c =
@@ -92,7 +96,7 @@ invariant_of-self-2 g c =
     let named : (T : Right → Bool) → count_rights T c.take_name.new.self.state.tasks ≡ count_rights T H.tasks = rw (c.take_name.ensures.named, c.in_ok-reserve.ensures.kept) (λ T. count_named T t 1 H.tasks) in
     let G = c.take_name.new.self.state in
     let filled = inserted_counts N G c.fill-port.new.self.state t in
-    let put = open-does N G t name c.args.ids c.args.parents c.args.modes (Ok c.fill-port.result) c.fill-port.new.self.state (record { answered = ap (λ (z : Result ℕ Errno × PortState). z.0) c.fill-port.ensures.answer; left = sym (ap (λ (z : Result ℕ Errno × PortState). z.1) c.fill-port.ensures.answer) }) in
+    let put = open-does N G t name c.args.ids c.args.parents c.args.modes _ _ c.fill-port.ensures.answer in
     let uses = rw c.in_ok-reserve.ensures.kept at c.of-before.ensures.uses in
     rehoused c.self.inside.nodes.sites b name others H.tasks c.fill-port.new.self.state.tasks 1 c.of-before.result c.of-now.result c.of-before.ensures.server uses c.of-now.ensures.server c.of-now.ensures.uses
     (omega (arith, named (uses_node name), filled (uses_node name) name c.args.ids c.args.parents c.args.modes _ true (λ x. same_name-itself name) put))

@@ -1,7 +1,7 @@
 -- The ports with a port more are the world with it, its node is counted, and so is a user of that node's server.
 use Rattle.std.proofs.Common.{refl, sym, inl, inr, ap}
 use Rattle.std.specs.Prelude.{Result, is_ok}
-use Rattle.hurd_machine.proofs.Common.{Errno, Name, NodeState, home_in, is_home, shown, uses_server}
+use Rattle.hurd_machine.proofs.Common.{Errno, Name, NodeState, home_in, is_home, shown, uses_server, world_from}
 use Rattle.std.proofs.lemmas.Result.{err_from_is_err_and}
 use Rattle.hurd_trans_iface.specs.declared.header_edit.HeaderEdit.TheVariants.{CountOpen}
 use Rattle.hurd_core.proofs.CoreLaws.{room-had, room-refused}
@@ -23,15 +23,17 @@ returns-in_err-reserve g c =
 pub returns-in_err-port : goal.returns-in_err-port
 returns-in_err-port g c =
     let p = err_from_is_err_and c.from_residual-in_err-port.result c.from_residual-in_err-port.ensures.1 in
-    rw (p.1, p.2, ← c.self.view_is)
-    (open-does (shown g.S.Server.meaning c.self.inside.nodes) c.self.inside.ports.state c.args.task.0 c.args.node c.args.ids c.args.parents c.args.modes _ _ c.in_err-port.ensures.answer)
+    let N = shown g.S.Server.meaning c.self.inside.nodes in
+    let H = c.self.inside.ports.state in
+    let short = c.in_err-port.ensures.err in
+    rw (p.1, p.2, ← c.self.view_is) (ap (world_from N) short.1, inr (short.0, ap is_ok (room-had N H c.args.task.0 1 _ (sym c.in_ok-room.ensures.room)).2))
 
 pub add-requires-clause-fits : goal.add-requires-clause-fits
 add-requires-clause-fits g c =
     let N = shown g.S.Server.meaning c.self.inside.nodes in
     let H = c.self.inside.ports.state in
     let sites = c.self.inside.nodes.sites in
-    let more = λ (s : Name). inserted_counts N H _ c.args.task.0 (uses_server sites s) c.args.node c.args.ids c.args.parents c.args.modes _ (is_home s (home_in sites c.args.node)) (λ x. refl) (open-does N H c.args.task.0 c.args.node c.args.ids c.args.parents c.args.modes _ _ c.in_ok-port.ensures.answer) in
+    let more = λ (s : Name). inserted_counts N H _ c.args.task.0 (uses_server sites s) c.args.node c.args.ids c.args.parents c.args.modes _ (is_home s (home_in sites c.args.node)) (λ x. refl) (open-does N H c.args.task.0 c.args.node c.args.ids c.args.parents c.args.modes _ _ c.in_ok-port.ensures.ok) in
     rw c.home.ensures (user_fits _ _ sites H.tasks _ (home_in sites c.args.node) c.self.invariant c.reserve.ensures.entries more c.rights_are_few.ensures)
 
 pub invariant_of-self-2 : goal.invariant_of-self-2
@@ -39,11 +41,11 @@ invariant_of-self-2 g c =
     let N = shown g.S.Server.meaning c.self.inside.nodes in
     let H = c.self.inside.ports.state in
     let sites = c.self.inside.nodes.sites in
-    let more = λ (s : Name). inserted_counts N H _ c.args.task.0 (uses_server sites s) c.args.node c.args.ids c.args.parents c.args.modes _ (is_home s (home_in sites c.args.node)) (λ x. refl) (open-does N H c.args.task.0 c.args.node c.args.ids c.args.parents c.args.modes _ _ c.in_ok-port.ensures.answer) in
+    let more = λ (s : Name). inserted_counts N H _ c.args.task.0 (uses_server sites s) c.args.node c.args.ids c.args.parents c.args.modes _ (is_home s (home_in sites c.args.node)) (λ x. refl) (open-does N H c.args.task.0 c.args.node c.args.ids c.args.parents c.args.modes _ _ c.in_ok-port.ensures.ok) in
     users_still _ _ _ _ _ (user_counted _ _ _ sites H.tasks _ (home_in sites c.args.node) c.self.invariant c.reserve.ensures.entries more (rw c.home.ensures at c.add.ensures)) (ap (λ (z : Result (Unit {0}) Errno × NodeState). z.1.sites) c.edit_header.ensures.shown) (λ s. refl)
 
 pub returns : goal.returns
 returns g c =
     rw (← c.self.view_is)
-    (opened-does (shown g.S.Server.meaning c.self.inside.nodes) c.self.inside.ports.state c.args.task.0 c.args.node c.args.ids c.args.parents c.args.modes _ _ _ c.in_ok-port.ensures.answer
+    (opened-does (shown g.S.Server.meaning c.self.inside.nodes) c.self.inside.ports.state c.args.task.0 c.args.node c.args.ids c.args.parents c.args.modes _ _ _ c.in_ok-port.ensures.ok
     (told-counted (shown g.S.Server.meaning c.self.inside.nodes) (shown g.S.Server.meaning c.edit_header.new.self) c.args.node (CountOpen c.args.modes) c.edit_header.result (λ k b. refl) c.edit_header.ensures.shown))
