@@ -101,7 +101,7 @@ def read(name):
         for form, match in forms:
             lines[form].append(match)
     for node in lines["node"]:
-        if SHAPES[node["kind"]] != node["shape"] or (node["size"] is None) != (node["kind"] == "d") or (node["ends"] is None) != (node["kind"] != "p"):
+        if SHAPES[node["kind"]] != node["shape"] or (node["size"] is None) != (node["kind"] == "d") or (node["ends"] is not None and node["kind"] != "p"):
             fail(name, f"a shape of another kind, or a size of a directory: {node[0][:200]}")
         if node["mark"] not in MARKS:
             fail(name, f"a mark: {node['mark']}")

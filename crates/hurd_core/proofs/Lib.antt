@@ -1,6 +1,5 @@
 pub mod PortWays
 pub mod SettleLaws
-pub mod CountLaws
 pub mod CoreLaws
 pub mod RightLaws
 pub mod MakingLaws

@@ -2,7 +2,7 @@
 use Rattle.std.proofs.Common.{◌≡◌, ◌≢◌, ◌∙◌, inl, inr, ℕ, ◌+◌, Bool, true, List, ◌∷◌, Option, Some, None, refl, sym, ap, ap₂, subst, slice_get, nat_lt, nat_le, arith}
 use Rattle.std.specs.Prelude.{Result, Ok, Err, is_ok, ◌&&◌, if◌then◌else◌}
 use Rattle.std.specs.Option.{option_map}
-use Rattle.hurd_machine.proofs.Common.{AddNode, EDIED, ENOMEM, EOVERFLOW, Errno, File, IdSets, Kind, MakeNode, Name, NewNode, Node, NodeState, OpenFlags, PortState, Steps, Task, World, apply_all, can_make, changes_of, edit_all, first, fresh, get, has_room, home_at, home_in, info_in, insert_step, made_node, make_at, makes_at, name_step, named_by, new_file, on, porting, room_at, room_of, u64_greatest, with_home, with_made, with_new_port, world_from}
+use Rattle.hurd_machine.proofs.Common.{AddNode, EDIED, ENOMEM, EOVERFLOW, Errno, File, IdSets, Kind, MakeNode, Name, NewNode, Node, NodeState, OpenFlags, PortState, Steps, Task, World, apply_all, can_make, changes_of, edit_all, first, fresh, get, has_room, home_at, home_in, info_in, insert_step, made_node, make_at, makes_at, name_step, named_by, new_file, on, opening, room_at, room_of, u64_greatest, with_home, with_made, with_new_port, world_from}
 use Rattle.hurd_trans_iface.specs.Answers.{added, entering}
 use Rattle.hurd_nodes.specs.Shown.{made_by, on_ok}
 use Rattle.hurd_ports.specs.declared.parents.Parent.{Parent}
@@ -126,7 +126,7 @@ module _ (N : NodeState) (H : PortState) (t : ℕ) (f : NewNodeAt) where
         let number : Ok k ≡ Ok m.task.next = ap (λ (z : Result ℕ Errno × PortState). z.0) is in
         let ports : K ≡ with_new_port t n ids parents modes (named 1 m.task) after_name = ap (λ (z : Result ℕ Errno × PortState). z.1) is in
         let file = new_file f.owner f.group f.mode in
-        let opened = porting t (named 1 m.task) n ids parents modes in (
+        let opened = opening t (named 1 m.task) n ids parents modes in (
           (m.task, m.server),
           m.asks,
           cc number,

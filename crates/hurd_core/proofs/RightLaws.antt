@@ -1,13 +1,11 @@
 -- Rights that are shared, sent and received, and other ids for a task: what the ports do is what the world's changes do.
 use Rattle.std.proofs.Common.{◌≡◌, ◌∙◌, inl, inr, ℕ, Bool, true, false, cond, List, [], ◌∷◌, Option, Some, None, length, slice_get, refl, sym, ap, subst, true≢false}
 use Rattle.std.specs.Prelude.{Result, Ok, Err, is_ok, nat_lt, if◌then◌else◌}
-use Rattle.hurd_machine.proofs.Common.{Change, EOVERFLOW, ESRCH, EWOULDBLOCK, EditTask, Errno, IdSets, Name, NodeState, OpenFlags, PendingStart, Plan, PortState, Right, Send, Steps, Task, World, answered, apply_all, edit_task, first, first_sent, given, has_room, insert_at, insert_step, is_no_memory, on, opened_by, opening, or_refuse, pend_at, pend_step, pending, porting, receive_at, receive_step, received, send_step, sent_to, share_at, share_step, take_ids_at, take_ids_step, taken_by, task_of, told, with_ids, with_new_port, with_pending, with_port, with_sent, world_from}
+use Rattle.hurd_machine.proofs.Common.{Change, EOVERFLOW, ESRCH, EWOULDBLOCK, EditTask, Errno, IdSets, Name, NodeState, OpenFlags, PendingStart, Plan, PortState, Right, Send, Steps, Task, World, answered, apply_all, edit_task, first, first_sent, given, has_room, insert_at, insert_step, is_no_memory, on, opening, or_refuse, pend_at, pend_step, pending, receive_at, receive_step, received, send_step, sent_to, share_at, share_step, take_ids_at, take_ids_step, taken_by, task_of, told, with_ids, with_new_port, with_pending, with_port, with_sent, world_from}
 use Rattle.hurd_ports.specs.declared.parents.Parent.{Parent}
 use Rattle.hurd_ports.specs.Tables.{right_of}
 use Rattle.hurd_machine.specs.declared.call.Reply.TheVariants.{Done}
-use Rattle.hurd_machine.specs.Change.{counted, settle}
-use Rattle.hurd_machine.proofs.Keeping.{apply_all-append}
-use Rattle.hurd_core.proofs.CountLaws.{counted_nodes, counted-world}
+use Rattle.hurd_machine.specs.Change.{settle}
 use Rattle.hurd_machine.specs.Plan.{Follows}
 use Rattle.hurd_core.proofs.SettleLaws.{does_settled, settled_if}
 use Rattle.hurd_core.specs.Core.{Does, receive_asks, room_asks, send_asks}
@@ -57,7 +55,7 @@ module _ (N : NodeState) (H : PortState) (t : ℕ) where
 
   module _ (n : Name) (ids : IdSets) (parents : List Parent) (modes : OpenFlags) where
     abbrev opens : Task → List Change
-    opens x = porting t x n ids parents modes
+    opens x = opening t x n ids parents modes
 
     open_by : (k : ℕ) (K : PortState) (o : Option Task) → insert_at H t n ids parents modes o ≡ (Ok k, K) → Does w (on ESRCH o (λ x. given EOVERFLOW (has_room 1 x) (Ok x))) opens (λ x. x.next) (Ok k) (world_from N K)
     unfolding on given
@@ -70,20 +68,6 @@ module _ (N : NodeState) (H : PortState) (t : ℕ) where
 
     pub open-does : (k : ℕ) (K : PortState) → insert_step t n ids parents modes H ≡ (Ok k, K) → Does w (room_asks w t 1) opens (λ x. x.next) (Ok k) (world_from N K)
     open-does k K did = open_by k K (slice_get H.tasks t) did
-
-    -- and counted, where the node's server counts that
-    pub opened-does : (k : ℕ) (K : PortState) (M : NodeState) → insert_step t n ids parents modes H ≡ (Ok k, K) → M ≡ counted_nodes n (opened_by modes) N
-        → Does w (room_asks w t 1) (λ (x : Task). opening w t x n ids parents modes) (λ x. x.next) (Ok k) (world_from M K)
-    opened-does k K M did left =
-        let d = open-does k K did in (
-          d.0,
-          d.1,
-          d.2,
-          ap (λ (L : NodeState). world_from L K) left
-              ∙ sym (counted-world N H K n (opened_by modes))
-              ∙ ap (apply_all (counted w n (opened_by modes))) d.3
-              ∙ sym (apply_all-append (porting t d.0 n ids parents modes) (counted w n (opened_by modes)) w),
-        )
 
   -- another thing to start, or nothing
 

@@ -1,18 +1,15 @@
 -- A change of the core that settles is the machine's changes with one more, which settles.
 use Rattle.std.proofs.Common.{◌≡◌, ◌∙◌, List, [], ◌∷◌, ◌++◌, sym, ap}
 use Rattle.std.specs.Prelude.{Result, Ok, Err}
-use Rattle.hurd_machine.proofs.Common.{Change, Errno, IsSettled, NodeState, OpenMap, PortState, Settle, World, is_held, outside_by, world_from}
+use Rattle.hurd_machine.proofs.Common.{Change, Errno, NodeState, PortState, Settle, World, outside_by, world_from}
 use Rattle.hurd_nodes.specs.Settle as kept
 use Rattle.hurd_machine.specs.Change.{settle}
 use Rattle.hurd_machine.proofs.Keeping.{apply_all-append}
-use Rattle.hurd_machine.proofs.Retained.{retain_all}
 use Rattle.hurd_core.specs.Core.{Does}
 
--- with each open held, the world settles as its nodes do
-pub settled_world : (H : PortState) → IsSettled H → (N M : NodeState) → M ≡ kept.settle (outside_by H.tasks) N → world_from M H ≡ settle (world_from N H)
-settled_world H whole N M left =
-    ap (λ (K : NodeState). world_from K H) left
-    ∙ ap (λ (m : OpenMap). world_from (kept.settle (outside_by H.tasks) N) (record { opens = m; tasks = H.tasks })) (sym (retain_all H.opens (is_held H.tasks) whole))
+-- the world settles as its nodes do
+pub settled_world : (H : PortState) (N M : NodeState) → M ≡ kept.settle (outside_by H.tasks) N → world_from M H ≡ settle (world_from N H)
+settled_world H N M left = ap (λ (K : NodeState). world_from K H) left
 
 -- the world settled, unless what came before was refused
 abbrev pub settled_if : Result (Unit {0}) Errno → World → World

@@ -6,7 +6,7 @@ use Rattle.hurd_nodes.specs.Settle.{AreServed, server_stays, named, sweep, sweep
 use Rattle.hurd_nodes.proofs.PartLaws.{cond_some}
 use Rattle.hurd_nodes.proofs.Sites.{home-kept}
 use Rattle.hurd_machine.proofs.Holders.{named_by_right}
-use Rattle.hurd_machine.proofs.Retained.{retained}
+use Rattle.hurd_creds.proofs.Retained.{retained}
 use Rattle.hurd_machine.proofs.Stays.{HasHeld, kept_by, kept_why, server_by}
 use Rattle.hurd_machine.proofs.Tasks.{count_alike}
 

@@ -2,7 +2,7 @@
 use Rattle.std.proofs.Common.{◌≡◌, ◌≢◌, ◌∙◌, ◌≤◌, inl, inr, ℕ, ◌+◌, ◌-◌, Bool, true, false, if◌then◌else◌, List, [], ◌∷◌, Option, Some, None, cond, refl, sym, ap, slice_get, nat_lt, length, arith}
 use Rattle.std.specs.Prelude.{IfSome, Result, Ok, Err}
 use Rattle.std.specs.Option.{option_map}
-use Rattle.hurd_machine.proofs.Common.{Control, EBADF, EOVERFLOW, ESRCH, EditTask, Errno, IdSets, Io, Meaning, Name, NameMap, Node, NodeMap, NodeState, OpenFlags, PendingStart, PortState, Right, Send, ServerInfo, Site, Start, Steps, Task, World, attached, boot_mode, boot_name, booted, count_list, count_rights, deallocate_at, deallocate_step, edit, edit_task, empty, get-empty, given, has_room, home_in, insert, is_home, name_cmp, new_right, new_root, new_site, one_if, or_refuse, pend_at, pend_step, porting, received, remove, right_at, right_in, rights_of, same_name, state_of, take_ids_at, take_ids_step, task_at, uses_node, uses_server, with_active, with_home, with_ids, with_pending, with_port, with_sent, without_old, without_port, without_sites, world_from}
+use Rattle.hurd_machine.proofs.Common.{Control, EBADF, EOVERFLOW, ESRCH, EditTask, Errno, IdSets, Io, Meaning, Name, NameMap, Node, NodeMap, NodeState, OpenFlags, PendingStart, PortState, Right, Send, ServerInfo, Site, Start, Steps, Task, World, attached, boot_mode, boot_name, booted, count_list, count_rights, deallocate_at, deallocate_step, edit, edit_task, empty, get-empty, given, has_room, home_in, insert, is_home, name_cmp, new_right, new_root, new_site, one_if, or_refuse, pend_at, pend_step, opening, received, remove, right_at, right_in, rights_of, same_name, state_of, take_ids_at, take_ids_step, task_at, uses_node, uses_server, with_active, with_home, with_ids, with_pending, with_port, with_sent, without_old, without_port, without_sites, world_from}
 use Rattle.hurd_creds.specs.Memory.{lacks_memory}
 use Rattle.hurd_creds.specs.NameMaps.{map_values}
 use Rattle.hurd_creds.proofs.NameLaws.{same_name-itself, same_name-apart, same_or_apart}
@@ -78,7 +78,7 @@ module _ (N : NodeState) (H K : PortState) (t : ℕ) where
 
   -- a port more, with an open of its own
   pub inserted_counts : (T : Right → Bool) (n : Name) (ids : IdSets) (parents : List Parent) (modes : OpenFlags) (k : ℕ) (c : Bool) → ((x : Task) → T (new_right t n ids parents x) ≡ c)
-      → Does w (room_asks w t 1) (λ x. porting t x n ids parents modes) (λ x. x.next) (Ok k) (world_from N K) → count_rights T K.tasks ≡ count_rights T H.tasks + one_if c
+      → Does w (room_asks w t 1) (λ x. opening t x n ids parents modes) (λ x. x.next) (Ok k) (world_from N K) → count_rights T K.tasks ≡ count_rights T H.tasks + one_if c
   inserted_counts T n ids parents modes k c test d =
       let x = d.0 in
       let r = new_right t n ids parents x in

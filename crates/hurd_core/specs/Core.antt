@@ -21,7 +21,7 @@ use Rattle.hurd_ports.specs.declared.parents.Parent.{Parent}
 use Rattle.hurd_ports.specs.declared.table.Right.{Right}
 use Rattle.hurd_ports.specs.Steps.{named, edit_task, with_pending}
 use Rattle.hurd_machine.specs.World.{World, world_from, nodes_of, ports_of, task_at, home_at, makes_at}
-use Rattle.hurd_machine.specs.Change.{Attach, Change, DropServer, EditTask, MakeNode, Settle, closes, porting, apply_all, changes_of}
+use Rattle.hurd_machine.specs.Change.{Attach, Change, DropServer, EditTask, MakeNode, Settle, apply_all, changes_of, opening}
 use Rattle.hurd_machine.specs.Plan.{on, given, first}
 use Rattle.hurd_core.specs.declared.to_make.ServerToMake.{ServerToMake}
 
@@ -87,7 +87,7 @@ making_asks w t f =
 
 -- the file made, and opened
 abbrev pub making_open : ℕ → NewNodeAt → IdSets → List Parent → OpenFlags → Task × Name → List Change
-making_open t f ids parents modes a = making t a.0 a.1 f (new_file f.owner f.group f.mode) ++ porting t (named 1 a.0) (fresh t a.0) ids parents modes
+making_open t f ids parents modes a = making t a.0 a.1 f (new_file f.owner f.group f.mode) ++ opening t (named 1 a.0) (fresh t a.0) ids parents modes
 
 -- the task that makes a directory, which needs a name and no port, and the server of the directory above it, which lets it be made
 abbrev pub making_dir_asks : World → ℕ → NewNodeAt → Result (Task × Name) Errno
@@ -130,11 +130,6 @@ starting_over t false = []
 abbrev pub started_over : ℕ → Bool → PortState → PortState
 started_over t true h = record h { tasks = edit_task t (with_pending None) h.tasks }
 started_over t false h = h
-
--- the open that goes with the right that was asked for, if one was
-abbrev pub closed_with : World → Result Right Errno → Option (Name × OpenFlags)
-closed_with w (Ok r) = closes w r
-closed_with w (Err e) = None
 
 -- task t, which stands as x, seats a server that means m, with these ids and targets: it gives the server a name, and then its root; if it was to start the server, it is to start
 -- nothing any more; what nothing keeps then goes

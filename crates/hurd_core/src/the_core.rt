@@ -9,11 +9,11 @@ ghost use Rattle.hurd_nodes.specs.Shown.{booted, shown, state_of};
 ghost use Rattle.hurd_nodes.specs.Needs.{FreeRead, FreeSize, FreeWrite};
 ghost use Rattle.hurd_ports.specs.Tables.{right_of, task_of};
 ghost use Rattle.hurd_ports.specs.Steps.{appending, at_cursor, received, with_ids, with_port};
-ghost use Rattle.hurd_machine.specs.World.{world_from, nodes_of, ports_of, asked_at, links_at, edits_header_at, renames_at, unlinks_at};
-ghost use Rattle.hurd_machine.specs.Change.{DropServer, EditBody, EditHeader, EditOpen, EditTask, Send, Settle, Unseat, apply, apply_all, changes_of, closing, dropping, opening, pending, settle};
+ghost use Rattle.hurd_machine.specs.World.{world_from, nodes_of, ports_of, asked_at, ends_at, links_at, readers_at, renames_at, sets_attrs_at, unlinks_at, writers_at};
+ghost use Rattle.hurd_machine.specs.Change.{DropServer, EditBody, EditHeader, EditOpen, EditTask, Send, Settle, Unseat, apply, apply_all, changes_of, dropping, opening, pending, settle};
 ghost use Rattle.hurd_machine.specs.Plan.{Follows, Planned, answered, told};
 ghost use Rattle.hurd_machine.specs.declared.call.Reply.TheVariants.{Done};
-ghost use Rattle.hurd_core.specs.Core.{Does, attaching, naming_asks, without_box, making_asks, closed_with, making_dir, making_dir_asks, making_open, receive_asks, room_asks, send_asks, started_over, unlinking, world_of, renaming};
+ghost use Rattle.hurd_core.specs.Core.{Does, attaching, naming_asks, without_box, making_asks, making_dir, making_dir_asks, making_open, receive_asks, room_asks, send_asks, started_over, unlinking, world_of, renaming};
 ghost use Rattle.hurd_core.specs.Control.{plan_options};
 ghost use Rattle.hurd_core.specs.ToMake.{new_node_of};
 ghost use Rattle.hurd_core.specs.Users.{home_of};
@@ -23,17 +23,10 @@ use crate::to_make::{NodeToMake, ServerToMake};
 use crate::users::{self, NodeUse, Users};
 use hurd_creds::{Bytes, Errno, Ids, Kind, NodeName, OpenFlags, OpenName, ServerName, TaskId};
 use hurd_nodes::{BOOT_NAME, Nodes};
-use hurd_ports::{Parents, PendingStart, Ports, Right};
+use hurd_ports::{Ends, Parents, PendingStart, Ports, Right};
 use hurd_trans_iface::{HeaderEdit, Server, Words};
 use std::alloc::Global;
 use std::marker::Model;
-
-/// An open that is about to go.
-#[derive(Clone, Copy, Debug)]
-struct ClosingOpen {
-    node: NodeName,
-    modes: OpenFlags,
-}
 
 /// Servers with their nodes, and the ports of tasks.
 #[derive(Drop)]
@@ -98,7 +91,6 @@ impl<S: Server> Core<S> {
     fn settle(&mut self)
         ensures { world_of S.meaning self.new ≡ settle (world_of S.meaning self.old) }
     {
-        self.ports.opens_are_held();
         self.nodes.nodes_are_served();
         self.nodes.settle(&NamedByRights { ports: &self.ports });
     }
@@ -115,15 +107,13 @@ impl<S: Server> Core<S> {
         modes: OpenFlags,
     ) -> Result<u64, Errno>
         ensures { let w = world_of S.meaning self.old in
-            Does w (room_asks w task.0 1) (λ x. opening w task.0 x node ids parents modes) (λ x. x.next) result (world_of S.meaning self.new) }
+            Does w (room_asks w task.0 1) (λ x. opening task.0 x node ids parents modes) (λ x. x.next) result (world_of S.meaning self.new) }
     {
         self.ports.room(task, 1)?;
         self.users.reserve(1)?;
         let port = self.ports.insert(task, node, ids, parents, modes)?;
         self.ports.rights_are_few();
         users::add(&mut self.users, self.nodes.home(node), 1);
-        // A server that counts no opens makes no such edit.
-        let _ = self.nodes.edit_header(node, HeaderEdit::CountOpen(modes));
         Ok(port)
     }
 
@@ -183,23 +173,6 @@ impl<S: Server> Core<S> {
         Ok(())
     }
 
-    /// The open that goes with a port, where no other right names it. Takes no memory.
-    fn closing(&self, task: TaskId, port: u64) -> Option<ClosingOpen>
-        ensures { let w = world_of S.meaning self.now in option_map (λ e. (e.node, e.modes)) result ≡ closed_with w (right_of (ports_of w) task.0 port) }
-    {
-        let Ok(right) = self.ports.io_right(task, port) else {
-            return None;
-        };
-        if self.ports.holders(right.open_name) != 1 {
-            return None;
-        }
-        let opened = self.ports.opened(right.open_name)?;
-        Some(ClosingOpen {
-            node: right.node,
-            modes: opened.modes,
-        })
-    }
-
     /// The server of the node that a port is to use; none where there is no such port, or no such node.
     fn home_used(&self, task: TaskId, port: u64) -> Option<ServerName>
         ensures { result ≡ home_of self.now.nodes.sites (right_of self.now.ports.state task.0 port) }
@@ -210,30 +183,17 @@ impl<S: Server> Core<S> {
         }
     }
 
-    /// Lets the server of an open's node know that it is gone, if one is. Takes no memory.
-    fn close(&mut self, gone: Option<ClosingOpen>)
-        ensures { let w = world_of S.meaning self.old in world_of S.meaning self.new ≡ apply_all (closing w (option_map (λ e. (e.node, e.modes)) gone)) w }
-    {
-        if let Some(open) = gone {
-            let _ = self
-                .nodes
-                .edit_header(open.node, HeaderEdit::CountClose(open.modes));
-        }
-    }
-
     /// Gives up a port. Its open goes where no other right names it, and its node where nothing else keeps it. Takes no memory.
     ///
     /// Errors, in order: `ESRCH` no such task, `EBADF` no such port.
     pub fn drop_port(&mut self, task: TaskId, port: u64) -> Result<(), Errno>
         ensures { let w = world_of S.meaning self.old in
-            Follows w (answered (right_of (ports_of w) task.0 port) (λ r. record { reply = Done; changes = dropping w task.0 port r }))
+            Follows w (answered (right_of (ports_of w) task.0 port) (λ r. record { reply = Done; changes = dropping task.0 port r }))
             (told (λ u. Done) result) (world_of S.meaning self.new) }
     {
-        let closing = self.closing(task, port);
         let server = self.home_used(task, port);
         self.ports.deallocate(task, port)?;
         users::subtract(&mut self.users, server, 1);
-        self.close(closing);
         self.settle();
         Ok(())
     }
@@ -330,6 +290,39 @@ impl<S: Server> Core<S> {
         self.ports.move_cursor(open_name, cursor)
     }
 
+    /// How many opens read a node, and how many write it, where its server is told. Takes no memory.
+    pub fn ends(&self, node: NodeName) -> Option<Ends>
+        ensures { result ≡ ends_at (world_of S.meaning self.now) node }
+    {
+        if !self.nodes.counts(node) {
+            return None;
+        }
+        Some(Ends {
+            readers: self.ports.readers(node),
+            writers: self.ports.writers(node),
+        })
+    }
+
+    /// How many opens write a node, as its server is told when it is read. Takes no memory.
+    fn writers(&self, node: NodeName) -> u128
+        ensures { result ≡ writers_at (world_of S.meaning self.now) node }
+    {
+        match self.ends(node) {
+            Some(ends) => ends.writers,
+            None => 0,
+        }
+    }
+
+    /// How many opens read a node, as its server is told when it is written. Takes no memory.
+    fn readers(&self, node: NodeName) -> u128
+        ensures { result ≡ readers_at (world_of S.meaning self.now) node }
+    {
+        match self.ends(node) {
+            Some(ends) => ends.readers,
+            None => 0,
+        }
+    }
+
     /// At most `amount` bytes of a node from `at` on, as its server gives them; where there are none, no memory is taken.
     pub fn read(
         &mut self,
@@ -339,24 +332,26 @@ impl<S: Server> Core<S> {
         amount: u64,
     ) -> Result<Bytes, Errno>
         ensures does { let w = world_of S.meaning self.old in
-            Does w (asked_at (reading at amount) node w) (λ d. changes_of (edits_of node (Ok d))) (λ d. d.told) result
+            Does w (asked_at (reading at amount (writers_at w node)) node w) (λ d. changes_of (edits_of node (Ok d))) (λ d. d.told) result
             (world_of S.meaning self.new) }
         ensures free { let w = world_of S.meaning self.old in
-            FreeRead at amount node (nodes_of w) → result ≡ told_of (asked_at (reading at amount) node w) }
+            FreeRead at amount (writers_at w node) node (nodes_of w) → result ≡ told_of (asked_at (reading at amount (writers_at w node)) node w) }
     {
-        self.nodes.read(alloc, node, at, amount)
+        let writers = self.writers(node);
+        self.nodes.read(alloc, node, at, amount, writers)
     }
 
     /// Puts bytes into a node at `at`, and answers how many its server took. Takes no memory where there is no data, where the bytes that are written over are there, and in
     /// a stream.
     pub fn write(&mut self, node: NodeName, at: u64, bytes: &[u8]) -> Result<u64, Errno>
         ensures does { let w = world_of S.meaning self.old in
-            Does w (asked_at (writing at bytes.now) node w) (λ d. changes_of (edits_of node (Ok d))) (λ d. d.told) result
+            Does w (asked_at (writing at bytes.now (readers_at w node)) node w) (λ d. changes_of (edits_of node (Ok d))) (λ d. d.told) result
             (world_of S.meaning self.new) }
         ensures free { let w = world_of S.meaning self.old in
-            FreeWrite at bytes.now node (nodes_of w) → result ≡ told_of (asked_at (writing at bytes.now) node w) }
+            FreeWrite at bytes.now node (nodes_of w) → result ≡ told_of (asked_at (writing at bytes.now (readers_at w node)) node w) }
     {
-        self.nodes.write(node, at, bytes)
+        let readers = self.readers(node);
+        self.nodes.write(node, at, bytes, readers)
     }
 
     /// Cuts a node to a size, or grows it, as its server does. A cut takes no memory, nor does a stream.
@@ -492,7 +487,7 @@ impl<S: Server> Core<S> {
     /// Errors, in order: `EDIED` no such node, `EOPNOTSUPP` its server makes no such edit.
     pub fn edit_header(&mut self, node: NodeName, edit: HeaderEdit) -> Result<(), Errno>
         ensures { let w = world_of S.meaning self.old in
-            Follows w (answered (edits_header_at w node edit) (λ u. record { reply = Done; changes = EditHeader node (header_after edit) ∷ [] }))
+            Follows w (answered (sets_attrs_at w node) (λ u. record { reply = Done; changes = EditHeader node (header_after edit) ∷ [] }))
             (told (λ u. Done) result) (world_of S.meaning self.new) }
     {
         self.nodes.edit_header(node, edit)

@@ -126,12 +126,19 @@ impl<S: Server> Server for Counted<S> {
         node: NodeName,
         at: u64,
         amount: u64,
+        writers: u128,
     ) -> Result<Bytes, Errno> {
-        self.server.read(alloc, node, at, amount)
+        self.server.read(alloc, node, at, amount, writers)
     }
 
-    fn write(&mut self, node: NodeName, at: u64, bytes: &[u8]) -> Result<u64, Errno> {
-        self.server.write(node, at, bytes)
+    fn write(
+        &mut self,
+        node: NodeName,
+        at: u64,
+        bytes: &[u8],
+        readers: u128,
+    ) -> Result<u64, Errno> {
+        self.server.write(node, at, bytes, readers)
     }
 
     fn set_size(&mut self, node: NodeName, size: u64) -> Result<(), Errno> {

@@ -8,3 +8,5 @@ pub mod TakeLaws
 pub mod CompareLaws
 pub mod NumberLemmas
 pub mod CountLaws
+pub mod Retained
+pub mod Sums

@@ -36,9 +36,6 @@ pub struct Attrs {
     pub size: u64,
     /// Whether it is a directory without entries.
     pub empty: bool,
-    /// How many opens read or write a fifo; none on any other node.
-    pub readers: u128,
-    pub writers: u128,
     /// Whether words of a passive translator are stored.
     pub passive: bool,
     /// Whether a translator is active.

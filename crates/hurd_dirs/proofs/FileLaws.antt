@@ -2,7 +2,7 @@
 use Rattle.std.proofs.Common.{◌≡◌, ℕ, Bool, true, Some, None, refl, sym, subst}
 use Rattle.std.specs.Prelude.{Result, Ok, Err}
 use Rattle.hurd_machine.proofs.Common.{BodyOf, EACCES, EDIED, ENOMEM, EOVERFLOW, ESRCH, Errno, File, IsFilled, Mode, Name, Named, Node, OfNode, OpenFlags, Planned, Sees, ServerInfo, Task, World, has_room, home_at, keeps_tree, least_uid, makes_at, named_by, new_file, open_modes, port_asks, server_at, task_at}
-use Rattle.hurd_trans_iface.proofs.BodyLaws.{made_has, tree_holds}
+use Rattle.hurd_trans_iface.proofs.BodyLaws.{tree_has, tree_holds}
 use Rattle.hurd_trans_iface.proofs.Goods.{good}
 use Rattle.hurd_machine.specs.declared.call.Reply.TheVariants.{Port}
 use Rattle.hurd_machine.proofs.Views.{Agree, same_tasks, home_same}
@@ -41,7 +41,7 @@ module _ (f : NewNodeAt) where
   file_nameless = record { shape = refl; empty = tt; file = refl; alone = refl; links = refl }
 
   file_fits : (i : ServerInfo) → keeps_tree i.kind ≡ true → IsFilled i file
-  file_fits i tree = ((good i.kind).newborn tree i.text f.dir None (record { name = f.dir; kind = File; owner = f.owner; group = f.group; mode = f.mode }) file refl, tree_holds i.kind file.body tree, made_has i.kind tree f.dir None (record { name = f.dir; kind = File; owner = f.owner; group = f.group; mode = f.mode }) file refl)
+  file_fits i tree = ((good i.kind).newborn tree i.text f.dir None (record { name = f.dir; kind = File; owner = f.owner; group = f.group; mode = f.mode }) file refl, tree_holds i.kind file.body tree, tree_has i.kind file.header tree)
 
 making_same : {S : ℕ → Bool} {v w : World} → Agree S v w → (t : ℕ) → S t ≡ true → (f : NewNodeAt) → Sees S v (BodyOf f.dir) → making_asks w t f ≡ making_asks v t f
 making_same a t ours f sees =

@@ -165,7 +165,7 @@ module _ (t p : ℕ) (name : List ℕ) (asks : World → Result Entered Errno) w
   removal_laws takes same plain = record {
     piece = λ w s. answered_piece s (asks w) _ _ (λ x is.
         let k = takes w x is in
-        settled (gone.unlinking x.dir name x.node) (tt, (tt, tt)) (tt, λ one. (λ h. (refl, refl), λ two. tt)) (stands s) (unlinking_piece x.dir name x.node good (stands s) (may_remove w s.coherent t p name x k) (inl (inl refl)) (inl (inr (inl refl))) (inl (inr (inr refl)))
+        settled (gone.unlinking x.dir name x.node) (tt, (tt, tt)) (stands s) (unlinking_piece x.dir name x.node good (stands s) (may_remove w s.coherent t p name x k) (inl (inl refl)) (inl (inr (inl refl))) (inl (inr (inr refl)))
         (λ S ours. body_seen t ours p name x k.is_taking)));
     same = λ S v w c d a ours. answered_same _ _ _ _ (same S v w c a ours) (λ x is. refl);
     plain = λ w. answered_plain _ _ (plain w) (λ x is. done_plain Done refl);

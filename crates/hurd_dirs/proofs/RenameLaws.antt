@@ -31,7 +31,6 @@ use Rattle.hurd_machine.proofs.BothLaws.{AreNamed, are_named, both_same, both_pl
 use Rattle.hurd_dirs.proofs.RemoveLaws.{kin_itself, empty_none, empty_by, removable}
 use Rattle.hurd_dirs.proofs.OrderLaws.{goes-alone, goes-over, may_rename}
 use Rattle.hurd_dirs.proofs.ClimbLaws.{inside_same, inside_around, inside_fewer}
-use Rattle.hurd_machine.proofs.Counting.{AllCalm}
 use Rattle.hurd_machine.proofs.Piece.{Stands, Piece, Whole, stands, whole_none, piece_then, settled}
 
 -- what an answer shows
@@ -344,8 +343,8 @@ module _ (t p q : ℕ) (name new : List ℕ) where
       c = s.coherent
 
       each : (a b : Named) (l : Name × Header) → Asked w t p q name new a b l → let r : Renaming = renaming w new a b l in Whole t (Full w t (touched r)) w w (renames name new r r.old)
-      each a b l f = by_old w b l r name new (Whole t T w w) refl f.old (λ there. whole_none s) (λ none. settled goings (tt, (tt, (tt, tt))) (moves_calm w) (stands s) (onward (stands s) (goes w t p q name new a b l f c s.linked none) (λ h at. at))) (λ m old other gives.
-          settled (unlinking r.to new m ++ goings) (tt, (tt, (tt, (tt, (tt, tt))))) (tt, λ one. (λ h. (refl, refl), λ two. moves_calm _)) (stands s)
+      each a b l f = by_old w b l r name new (Whole t T w w) refl f.old (λ there. whole_none s) (λ none. settled goings (tt, (tt, (tt, tt))) (stands s) (onward (stands s) (goes w t p q name new a b l f c s.linked none) (λ h at. at))) (λ m old other gives.
+          settled (unlinking r.to new m ++ goings) (tt, (tt, (tt, (tt, (tt, tt))))) (stands s)
           (piece_then (unlinking r.to new m) goings (tt, (tt, tt)) (stands s) (unlinking_piece r.to new m good (stands s) (removes w t p q name new a b l f c s.linked m old other gives) body empty (inl (inr (inr (inr (m, old, refl))))) (λ S ours. to S ours))
           (λ d. onward d (left_goes w t p q name new a b l f c s.linked m old other gives) (λ h at. sym (left_header w r.to new m r.node (λ same. other (sym same))) ∙ at))))
         where
@@ -357,10 +356,6 @@ module _ (t p q : ℕ) (name new : List ℕ) where
 
           goings : List Change
           goings = going r.from name r.node r.to new
-
-          -- they count nothing
-          moves_calm : (x : World) → AllCalm x goings
-          moves_calm x = (tt, λ one. (λ h. (refl, refl), λ two. (tt, λ three. tt)))
 
           body : T (BodyOf r.to)
           body = inl (inr (inl (inl refl)))

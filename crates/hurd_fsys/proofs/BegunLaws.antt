@@ -1,6 +1,6 @@
 -- A server that begins: its root's shape, size, and how it hangs, and how it comes.
 use Rattle.std.proofs.Common.{Option, Some, None, not, [], ◌∷◌, ap, ◌≡◌, ◌≢◌, ◌∙◌, ℕ, Bool, true, false, true≢false, if◌then◌else◌, List, refl, sym}
-use Rattle.hurd_machine.proofs.Common.{Attach, AttrOf, BodyOf, Dir, DropServer, EOVERFLOW, ESRCH, EmptyOf, Header, IsShaped, Kind, Meaning, Mode, Name, Node, OptionsOf, Part, ServerInfo, Task, TaskOf, TextOf, World, active_at, begun_info, begun_root, boot_name, empty_body, fresh, given, header_at, home_at, is_dir, is_home, is_other, is_plain, is_tree, on, task_at}
+use Rattle.hurd_machine.proofs.Common.{Attach, AttrOf, BodyOf, Dir, DropServer, EOVERFLOW, ESRCH, EmptyOf, EndsOf, Header, IsShaped, Kind, Meaning, Mode, Name, Node, OptionsOf, Part, ServerInfo, Task, TaskOf, TextOf, World, active_at, begun_info, begun_root, boot_name, empty_body, fresh, given, header_at, home_at, is_dir, is_home, is_other, is_plain, is_tree, on, task_at}
 use Rattle.hurd_trans_iface.specs.declared.root.Root.{Root}
 use Rattle.hurd_trans_iface.specs.Meaning.{root_of}
 use Rattle.hurd_trans_iface.proofs.BodyLaws.{begun_has, begun_holds}
@@ -71,7 +71,7 @@ module _ (w : World) (t : ℕ) (n : Name) (h : Header) (there : (k : Header) × 
   }
 
   pub begins : Begun info node
-  begins = record { links = refl; tree = λ tree. plain_dir (root_of m.kind m.text) (tree-told m.kind m.text ∙ tree); filled = (refl, begun_holds m.kind m.text, begun_has m.kind m.text h.owner h.group mode); unread = (refl, refl) }
+  begins = record { links = refl; tree = λ tree. plain_dir (root_of m.kind m.text) (tree-told m.kind m.text ∙ tree); filled = (refl, begun_holds m.kind m.text, begun_has m.kind m.text h.owner h.group mode) }
 
   module _ (st : Stands w) where
     -- no server is active on a node of its own
@@ -86,15 +86,15 @@ module _ (w : World) (t : ℕ) (n : Name) (h : Header) (there : (k : Header) × 
     not_boot q e = (st.coherent.seating.seated n q e).0
 
     -- it comes, and another that is active there goes for it, or none; that writes what may be parts of a world like this one
-    pub comings_whole : {T : Part → Type 0} {v : World} → T (TaskOf t) → T (AttrOf root) → T (EmptyOf root) → T (BodyOf root) → T (OptionsOf s) → T (TextOf s) → T (AttrOf n) → (old : Option Name)
+    pub comings_whole : {T : Part → Type 0} {v : World} → T (TaskOf t) → T (AttrOf root) → T (EmptyOf root) → T (BodyOf root) → T (EndsOf root) → T (OptionsOf s) → T (TextOf s) → T (AttrOf n) → (old : Option Name)
         → ((q : Name) → old ≡ Some q → active_at w n ≡ Some q) → ((q : Name) → old ≡ Some q → (p : Part) → Goes w q p → T p) → AimsAtSeen t v info → Whole t T v w (attaching t (seat_on n h m old false) (server_ids h.owner) targets m x)
-    comings_whole task attr empty body options text seat None is_old parts aims =
-        settled (Attach s n info node ∷ []) (tt, tt) (begins.unread, λ one. tt) st (comes_piece st s n info node newcomer begins task attr empty body seat options text aims)
-    comings_whole task attr empty body options text seat (Some q) is_old parts aims =
+    comings_whole task attr empty body ends options text seat None is_old parts aims =
+        settled (Attach s n info node ∷ []) (tt, tt) st (comes_piece st s n info node newcomer begins task attr empty body ends seat options text aims)
+    comings_whole task attr empty body ends options text seat (Some q) is_old parts aims =
         let e = is_old q refl in
-        settled (DropServer q ∷ Attach s n info node ∷ []) (tt, (tt, tt)) (tt, λ one. (begins.unread, λ two. tt)) st
+        settled (DropServer q ∷ Attach s n info node ∷ []) (tt, (tt, tt)) st
         (piece_then (DropServer q ∷ []) (Attach s n info node ∷ []) (tt, tt) st (goes_piece st q (not_boot q e) (parts q refl))
-        (λ d. comes_piece d s n info node (comes_after w st.coherent q (not_boot q e) s n info node (other q e) newcomer) begins task attr empty body seat options text aims))
+        (λ d. comes_piece d s n info node (comes_after w st.coherent q (not_boot q e) s n info node (other q e) newcomer) begins task attr empty body ends seat options text aims))
 
 -- a task that has names, or room, left is there
 

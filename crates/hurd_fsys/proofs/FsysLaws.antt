@@ -53,7 +53,7 @@ module _ (t c : ℕ) (flags : GoawayFlags) where
 
   pub goaway_laws : CallLaws t (λ w. plan_goaway w t c flags) (λ w. touches_goaway w t c flags)
   goaway_laws = record {
-    piece = λ w s. answered_piece s (goaway_asks w t c flags) _ _ (λ q is. settled (DropServer q ∷ []) (tt, tt) (tt, λ one. tt) (stands s) (goes_piece (stands s) q (goer w q is) (λ p g. inl g)));
+    piece = λ w s. answered_piece s (goaway_asks w t c flags) _ _ (λ q is. settled (DropServer q ∷ []) (tt, tt) (stands s) (goes_piece (stands s) q (goer w q is) (λ p g. inl g)));
     same = λ S v w c' d a ours. answered_same _ _ _ _ (first_same _ _ _ _ (controlled_same a t ours c) (λ k is.
         given_same _ _ _ _ _ (may_go_same a k (is_controlled v t c k is) ours) (λ e. refl))) (λ q is. refl);
     plain = λ w. answered_plain _ _ (first_plain _ _ (controlled_plain w t c) (λ k is. given_plain _ _ _ refl (λ e. ok_plain _))) (λ q is. done_plain Done refl);
@@ -73,7 +73,7 @@ module _ (t : ℕ) where
   control_laws asks l = record {
     piece = λ w s. answered_whole s (asks w) _ (λ q is. answered_whole s (room_asks w t 0) _ (λ x at.
         let i = l.there w s.coherent q is in
-        port_whole s t (Control q) x (counted_task w t (has_room 0) x at) (own_task w t Nothing) tt (s.coherent.given.servers q i.0 i.1) tt (λ S ours. (l.commanded S w s.coherent ours q is, inr tt))));
+        port_whole s t (Control q) x (counted_task w t (has_room 0) x at) (own_task w t Nothing) tt (s.coherent.given.servers q i.0 i.1) (λ S ours. (l.commanded S w s.coherent ours q is, inr tt))));
     same = λ S v w c d a ours. answered_same _ _ _ _ (l.same S v w a ours) (λ q is. answered_same _ _ _ _ (on_same _ _ _ _ _ (same_tasks a t ours) (λ x k. refl)) (λ x at. refl));
     plain = λ w. answered_plain _ _ (l.plain w) (λ q is. answered_plain _ _ (on_plain _ _ _ refl (λ x k. given_plain _ _ _ refl (λ room. ok_plain _))) (λ x at. done_plain (Port x.next) refl));
   }

@@ -2,7 +2,7 @@
 use Rattle.std.proofs.Common.{◌≡◌, ◌≢◌, ◌⊎◌, ◌∙◌, ℕ, Bool, true, false, if◌then◌else◌, List, [], ◌∷◌, Option, Some, None, refl, sym, ap, ap₂, subst, inl, inr}
 use Rattle.std.specs.Prelude.{Ok, Err, is_some}
 use Rattle.std.specs.Option.{option_map}
-use Rattle.hurd_machine.proofs.Common.{AttrOf, Below, BodyOf, Change, EINVAL, EditHeader, EmptyOf, Errno, Header, Meaning, Name, NameMap, Named, Node, NodeMap, OptionsOf, TextOf, Owns, OwnsIt, Part, ServerInfo, Site, Sound, Task, UsersOf, World, active_in, apply_all, edit, edit_by, first, get, has_words, header_at, home_in, info_at, info_in, keeps_tree, node_at, on, passive_of, port_asks, sets_attrs_at, shape_by, some_words, tree_by, with_header, with_passive, words_at, words_in}
+use Rattle.hurd_machine.proofs.Common.{AttrOf, Below, BodyOf, Change, EINVAL, EditHeader, EmptyOf, EndsOf, Errno, Header, Meaning, Name, NameMap, Named, Node, NodeMap, OptionsOf, TextOf, Owns, OwnsIt, Part, ServerInfo, Site, Sound, Task, UsersOf, World, active_in, apply_all, edit, edit_by, first, get, has_words, header_at, home_in, info_at, info_in, node_at, on, passive_of, port_asks, sets_attrs_at, shape_by, some_words, tree_by, with_header, with_passive, words_at, words_in}
 use Rattle.hurd_creds.proofs.NameLaws.{same_map_by, same_or_apart, edit_here, edit_apart}
 use Rattle.hurd_machine.specs.World.{nodes_of}
 use Rattle.hurd_machine.specs.Touched.{Goes}
@@ -32,6 +32,7 @@ goes_like w v n k q (AttrOf m) (inl e) = inl (ap (λ (rs : NameMap Site). home_i
 goes_like w v n k q (AttrOf m) (inr e) = inr (ap (λ (rs : NameMap Site). active_in rs m) (sym k.sites) ∙ e)
 goes_like w v n k q (EmptyOf m) e = ap (λ (rs : NameMap Site). home_in rs m) (sym k.sites) ∙ e
 goes_like w v n k q (BodyOf m) e = ap (λ (rs : NameMap Site). home_in rs m) (sym k.sites) ∙ e
+goes_like w v n k q (EndsOf m) e = ap (λ (rs : NameMap Site). home_in rs m) (sym k.sites) ∙ e
 goes_like w v n k q (OptionsOf s) e = e
 goes_like w v n k q (TextOf s) e = e
 goes_like w v n k q (UsersOf s) e = e
@@ -81,16 +82,16 @@ module _ (n : Name) (words : List (List ℕ)) where
   pub storing_whole : {t : ℕ} {T : Part → Type 0} {w : World} → Sound w → tree_by (info_at w n) ≡ true → (h : Header) → header_at w n ≡ Some h → T (AttrOf n) → ((S : ℕ → Bool) → S t ≡ true → OwnsIt S w h) → (b : Bool) → Whole t T w w (storing_if b)
   storing_whole {t} {T} {w} s tree h at attr owns false = whole_none s
   storing_whole {t} {T} {w} s tree h at attr owns true =
-      quiet (storing_if true) (λ k e. e, tt) (λ k. (refl, refl), λ c. tt) s (of_header n (with_passive words) (λ k. (refl, refl, refl)) (λ k. refl) (tree_header w n (with_passive words) tree (λ k. (refl, refl))) (stands s) attr (λ S ours. (λ k there. less S (owns S ours) k (cc (at, there)), tt)))
+      quiet (storing_if true) (λ k e. e, tt) s (of_header n (with_passive words) (λ k. (refl, refl, refl)) (λ k. refl) (tree_header w n (with_passive words) tree) (stands s) attr (λ S ours. (λ k there. less S (owns S ours) k (cc (at, there)), tt)))
     where
       less : (S : ℕ → Bool) → OwnsIt S w h → (k : Header) → h ≡ k → Less S w n (with_passive words k) k
       less S o k same = rw (← same) (record { kind = refl; parent = λ p e. inl e; could = λ want c. Owns o.0 o.1 o.2; owns = λ z. o })
 
   -- whether attributes may be set stays
   pub storing_sets : (b : Bool) (w : World) (m : Name) → sets_attrs_at (apply_all (storing_if b) w) m ≡ sets_attrs_at w m
-  storing_sets true w m = edit_keeps (edit_by keeps_tree (info_at w m)) (with_header (with_passive words)) (still (info_at w m)) w.nodes n m
+  storing_sets true w m = edit_keeps (edit_by (info_at w m)) (with_header (with_passive words)) (still (info_at w m)) w.nodes n m
     where
-      still : (i : Option ServerInfo) (o : Option Node) → edit_by keeps_tree i (option_map (with_header (with_passive words)) o) ≡ edit_by keeps_tree i o
+      still : (i : Option ServerInfo) (o : Option Node) → edit_by i (option_map (with_header (with_passive words)) o) ≡ edit_by i o
       still None o = refl
       still (Some i) None = refl
       still (Some i) (Some x) = refl
@@ -119,7 +120,7 @@ module _ (n : Name) (words : List (List ℕ)) where
 pub tree_sets : (w : World) (n : Name) (h : Header) → header_at w n ≡ Some h → tree_by (info_at w n) ≡ true → sets_attrs_at w n ≡ Ok tt
 tree_sets w n h at tree = go (info_at w n) (get w.nodes n) tree at
   where
-    go : (i : Option ServerInfo) (o : Option Node) → tree_by i ≡ true → header_in o ≡ Some h → edit_by keeps_tree i o ≡ Ok tt
+    go : (i : Option ServerInfo) (o : Option Node) → tree_by i ≡ true → header_in o ≡ Some h → edit_by i o ≡ Ok tt
     go (Some i) (Some x) t e = rw t refl
     go _ _ t e = absurd (cc)
 

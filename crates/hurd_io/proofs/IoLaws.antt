@@ -1,16 +1,18 @@
 -- The laws of reading and writing, and of what is told of a node.
-use Rattle.std.proofs.Common.{◌≡◌, ◌⊎◌, sym, ℕ, ℤ, pos, negsuc, zero, suc, Bool, true, false, List, refl, inl, inr, ap, subst, min}
+use Rattle.std.proofs.Common.{◌≡◌, ◌⊎◌, ◌∙◌, sym, ℕ, ℤ, pos, negsuc, zero, suc, Bool, true, false, List, refl, inl, inr, ap, subst, min}
 use Rattle.std.specs.Prelude.{Result, Ok, length}
 use Rattle.hurd_machine.proofs.Common.{BodyOf, Change, Coherent, Did, Errno, Name, OnDid, Part, Question, READ, Reply, Seen, Sees, Sound, WRITE, World, asked_at, changes_of, counts_at, edits_of, handle_asks, is_refused, most_read, stream_at}
 use Rattle.hurd_trans_iface.specs.Kinds.{ServerKind, behaviour_of}
 use Rattle.hurd_trans_iface.specs.Good.{IsPlain as IsPlainAnswer}
+use Rattle.hurd_trans_iface.specs.Behaviour.{reading, writing}
+use Rattle.hurd_machine.specs.World.{readers_at, readers_in, writers_at, writers_in}
 use Rattle.hurd_trans_iface.proofs.BodyLaws.{read_holds, write_holds}
 use Rattle.hurd_machine.proofs.Views.{Agree, active_same}
 use Rattle.hurd_machine.proofs.Filled.{KeepsNodes}
 use Rattle.hurd_machine.proofs.Permits.{did_exact}
 use Rattle.hurd_machine.proofs.Opens.{cursor_whole}
 use Rattle.hurd_machine.proofs.Edits.{did_whole}
-use Rattle.hurd_machine.proofs.Asks.{IsPlain, ok_plain, err_plain, asked_plain, answered_same, answered_plain, done_plain, first_same, first_ok, given_ok, given_same, stream_same, first_plain, given_plain, handle_same, handle_put, handle_read, handle_plain, asked_seen, handle_seen, written_same, port_same, port_plain, port_seen}
+use Rattle.hurd_machine.proofs.Asks.{IsPlain, ok_plain, err_plain, asked_plain, answered_same, answered_plain, done_plain, first_same, first_ok, given_ok, given_same, stream_same, first_plain, given_plain, handle_same, handle_put, handle_read, handle_plain, asked_seen, ends_alike, handle_seen, written_same, port_same, port_plain, port_seen}
 use Rattle.hurd_machine.proofs.CallLaws.{CallLaws, answered_piece, looking_laws}
 use Rattle.hurd_io.specs.declared.offset.Offset.{Offset}
 use Rattle.hurd_io.specs.declared.offset.Offset.TheVariants.{Place, Cursor}
@@ -41,18 +43,18 @@ begins_same : {S : ℕ → Bool} {v w : World} → Agree S v w → (h : Handle) 
 begins_same a h seen cursor o = ap (λ b. Ok (io_at h b cursor o)) (stream_same a h.node seen)
 
 -- of a call of task t that asks this first and then the server a question
-pub record IoLaws {T : Type 0} (t : ℕ) (asks : World → Result IoAt Errno) (q : ℕ → Question T) (reply : T → Reply) : Type 0 where
+pub record IoLaws {T : Type 0} (t : ℕ) (asks : World → Result IoAt Errno) (q : World → IoAt → Question T) (reply : T → Reply) : Type 0 where
   -- what is asked first, and what the server answers, is the same in worlds that agree for a set with the task
   pub asks_same : (S : ℕ → Bool) (v w : World) → Agree S v w → S t ≡ true → asks w ≡ asks v
-  pub told_same : (S : ℕ → Bool) (v w : World) → Coherent v → Agree S v w → S t ≡ true → (a : IoAt) → asks v ≡ Ok a → asked_at (q a.at) a.node w ≡ asked_at (q a.at) a.node v
+  pub told_same : (S : ℕ → Bool) (v w : World) → Coherent v → Agree S v w → S t ≡ true → (a : IoAt) → asks v ≡ Ok a → asked_at (q w a) a.node w ≡ asked_at (q v a) a.node v
   -- no refusal is want of memory
   pub asks_plain : (w : World) → IsPlain (asks w)
-  pub told_plain : (at : ℕ) (k : ServerKind) → IsPlainAnswer (behaviour_of k) (q at)
+  pub told_plain : (w : World) (a : IoAt) (k : ServerKind) → IsPlainAnswer (behaviour_of k) (q w a)
   pub reply_plain : (x : T) → is_refused (reply x) ≡ false
   -- and sizes stay right, and in nodes is what may be there
-  pub keeps : (at : ℕ) → KeepsNodes (q at)
+  pub keeps : (w : World) (a : IoAt) → KeepsNodes (q w a)
 
-module _ {T : Type 0} (t : ℕ) (asks : World → Result IoAt Errno) (q : ℕ → Question T) (reply : T → Reply) (count : T → ℕ) (l : IoLaws t asks q reply) where
+module _ {T : Type 0} (t : ℕ) (asks : World → Result IoAt Errno) (q : World → IoAt → Question T) (reply : T → Reply) (count : T → ℕ) (l : IoLaws t asks q reply) where
   -- what the server does to the node, and then the cursor
   abbrev edits : IoAt → Did T → List Change
   edits a d = changes_of (edits_of a.node (Ok d))
@@ -63,14 +65,14 @@ module _ {T : Type 0} (t : ℕ) (asks : World → Result IoAt Errno) (q : ℕ �
   abbrev parts : IoAt → Did T → Part → Type 0
   parts a d p = OnDid a.node d p ⊎ Moves a.offset a.is_stream a.open_name p
 
-  pub io_laws : CallLaws t (λ w. plan_io w (asks w) q reply count) (λ w. touches_io w (asks w) q)
+  pub io_laws : CallLaws t (λ w. plan_io w (asks w) (q w) reply count) (λ w. touches_io w (asks w) (q w))
   io_laws = record {
-    piece = λ w s. answered_piece s (asks w) _ _ (λ a is. answered_piece s (asked_at (q a.at) a.node w) _ (λ d p. parts a d p) (λ d told.
-        whole_then (edits a d) (moves a d) (did_exact a.node d) s (did_whole s (q a.at) (l.keeps a.at) a.node d told (λ p on. inl (inl on)))
+    piece = λ w s. answered_piece s (asks w) _ _ (λ a is. answered_piece s (asked_at (q w a) a.node w) _ (λ d p. parts a d p) (λ d told.
+        whole_then (edits a d) (moves a d) (did_exact a.node d) s (did_whole s (q w a) (l.keeps w a) a.node d told (λ p on. inl (inl on)))
         (λ x. moved_whole x a.offset a.is_stream a.open_name _ (λ p on. inl (inr on)))));
     same = λ S v w c d a ours. answered_same _ _ _ _ (l.asks_same S v w a ours) (λ x is. answered_same _ _ _ _ (l.told_same S v w c a ours x is) (λ d told. refl));
     plain = λ w. answered_plain _ _ (l.asks_plain w) (λ a is.
-        answered_plain _ _ (asked_plain (q a.at) (l.told_plain a.at) a.node w) (λ d told. done_plain _ (l.reply_plain d.told)));
+        answered_plain _ _ (asked_plain (q w a) (l.told_plain w a) a.node w) (λ d told. done_plain _ (l.reply_plain d.told)));
   }
 
 -- io_read: it asks of a node that the caller has open to read, whose body it sees.
@@ -89,14 +91,16 @@ read_laws t p amount offset = io_laws t (λ w. read_asks w t p offset) (reads am
       given_same _ _ _ _ _ refl (λ file. first_same _ _ _ _ refl (λ o e. begins_same a h (handle_seen t ours p READ h is) h.opened.cursor o)));
   told_same = λ S v w c a ours x is.
       let h = read_by v t p offset x is in
-      asked_seen a x.node (reads amount x.at) (λ k text out. (good k).guards.read_untold text out x.at (min amount most_read)) c (subst (λ n. Sees S v (BodyOf n)) h.2 (handle_read t ours p h.0 h.1));
+      let sees : Sees S v (BodyOf x.node) = subst (λ n. Sees S v (BodyOf n)) h.2 (handle_read t ours p h.0 h.1) in
+      ap (λ k. asked_at (reading x.at (min amount most_read) k) x.node w) (ap writers_in (ends_alike a x.node sees.0 (λ counts. sees)))
+      ∙ asked_seen a x.node (reads amount v x) (λ k text out. (good k).guards.read_untold text out x.at (min amount most_read) (writers_at v x.node)) c sees;
   asks_plain = λ w. first_plain _ _ (handle_plain w t p READ) (λ h is. given_plain _ _ _ refl (λ file. first_plain _ _ (offset_plain offset) (λ o e. ok_plain _)));
-  told_plain = λ at k. (good k).read_plain at (min amount most_read);
+  told_plain = λ w a k. (good k).read_plain a.at (min amount most_read) (writers_at w a.node);
   reply_plain = λ bytes. refl;
-  keeps = λ at k. ((good k).read_sizes at (min amount most_read), read_holds at (min amount most_read) k);
+  keeps = λ w a k. ((good k).read_sizes a.at (min amount most_read) (writers_at w a.node), read_holds a.at (min amount most_read) (writers_at w a.node) k);
 })
 
--- io_write: it asks of a node that the caller has open to write, and is told nothing of its body, unless its server counts who reads: then it sees that.
+-- io_write: it asks of a node that the caller has open to write, and is told nothing of its body, unless its server is told who reads: then it sees that.
 
 -- the port that is written by
 written_by : (w : World) (t p : ℕ) (offset : ℤ) (a : IoAt) → write_asks w t p offset ≡ Ok a → (h : Handle) × (handle_asks w t p WRITE ≡ Ok h) × (h.node ≡ a.node)
@@ -111,12 +115,13 @@ write_laws t p bytes offset = io_laws t (λ w. write_asks w t p offset) (writes 
       first_same _ _ _ _ refl (λ o e. begins_same a h (handle_seen t ours p WRITE h is) (write_cursor h) o));
   told_same = λ S v w c a ours x is.
       let h = written_by v t p offset x is in
-      written_same a x.node x.at bytes c (subst (Seen S v) h.2 (handle_seen t ours p WRITE h.0 h.1)) (λ counts.
-      subst (λ n. Sees S v (BodyOf n)) h.2 (handle_put t ours p h.0 h.1 (subst (λ n. counts_at v n ≡ true) (sym h.2) counts)));
+      let seen : Seen S v x.node = subst (Seen S v) h.2 (handle_seen t ours p WRITE h.0 h.1) in
+      let sees : counts_at v x.node ≡ true → Sees S v (BodyOf x.node) = λ counts. subst (λ n. Sees S v (BodyOf n)) h.2 (handle_put t ours p h.0 h.1 (subst (λ n. counts_at v n ≡ true) (sym h.2) counts)) in
+      ap (λ k. asked_at (writing x.at bytes k) x.node w) (ap readers_in (ends_alike a x.node seen sees)) ∙ written_same a x.node x.at bytes (readers_at v x.node) c seen sees;
   asks_plain = λ w. first_plain _ _ (handle_plain w t p WRITE) (λ h is. first_plain _ _ (offset_plain offset) (λ o e. ok_plain _));
-  told_plain = λ at k. (good k).write_plain at bytes;
+  told_plain = λ w a k. (good k).write_plain a.at bytes (readers_at w a.node);
   reply_plain = λ taken. refl;
-  keeps = λ at k. ((good k).write_sizes at bytes, write_holds at bytes k);
+  keeps = λ w a k. ((good k).write_sizes a.at bytes (readers_at w a.node), write_holds a.at bytes (readers_at w a.node) k);
 })
 
 -- io_stat: it asks for a node that the caller has a port on, and so sees.

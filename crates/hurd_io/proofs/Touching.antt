@@ -22,10 +22,10 @@ parts_of (Err e) k p h on = absurd on
 parts_of (Ok a) k p h on = h a refl on
 
 -- what a call touches that asks this of what a port has open: what the server does to the node, or the open
-pub record Touches {T : Type 0} (w : World) (t p mode : ℕ) (q : ℕ → Question T) (k : Part) : Type 0 where
+pub record Touches {T : Type 0} (w : World) (t p mode : ℕ) (q : IoAt → Question T) (k : Part) : Type 0 where
   pub handle : Handle
   pub is_handle : handle_asks w t p mode ≡ Ok handle
-  pub on : ((at : ℕ) × (d : Did T) × (asked_at (q at) handle.node w ≡ Ok d) × OnDid handle.node d k) ⊎ (k ≡ OpenOf handle.open_name)
+  pub on : ((at : IoAt) × (d : Did T) × (asked_at (q at) handle.node w ≡ Ok d) × OnDid handle.node d k) ⊎ (k ≡ OpenOf handle.open_name)
 
 -- what a port has open for this, where a call on it begins
 pub record HandleOf (w : World) (t p mode : ℕ) (a : IoAt) : Type 0 where
@@ -49,24 +49,24 @@ write_handle w t p offset a is =
     let same : io_at h.0 (stream_at w h.0.node) (write_cursor h.0) o.0 ≡ a = cc (o.2) in
     record { handle = h.0; is_handle = h.1; node = ap (λ (z : IoAt). z.node) same; open_name = ap (λ (z : IoAt). z.open_name) same }
 
-touched : {T : Type 0} (w : World) (t p mode : ℕ) (q : ℕ → Question T) (k : Part) (a : IoAt) (d : Did T) → HandleOf w t p mode a
-    → asked_at (q a.at) a.node w ≡ Ok d → OnDid a.node d k ⊎ Moves a.offset a.is_stream a.open_name k → Touches w t p mode q k
+touched : {T : Type 0} (w : World) (t p mode : ℕ) (q : IoAt → Question T) (k : Part) (a : IoAt) (d : Did T) → HandleOf w t p mode a
+    → asked_at (q a) a.node w ≡ Ok d → OnDid a.node d k ⊎ Moves a.offset a.is_stream a.open_name k → Touches w t p mode q k
 touched w t p mode q k a d h told on = record {
   handle = h.handle;
   is_handle = h.is_handle;
   on = elim on [
-    | inl did ↦ inl (rw h.node (a.at, d, told, did))
+    | inl did ↦ inl (rw h.node (a, d, told, did))
     | inr moved ↦ inr (rw h.open_name (moves_open a.offset a.is_stream a.open_name k moved))
   ];
 }
 
-pub read_touches : (w : World) (t p amount : ℕ) (offset : ℤ) (k : Part) → touches_read w t p amount offset k → Touches w t p READ (reads amount) k
-read_touches w t p amount offset k = parts_of (read_asks w t p offset) _ k (λ a is. parts_of (asked_at (reads amount a.at) a.node w) _ k (λ d told on.
-    touched w t p READ (reads amount) k a d (read_handle w t p offset a is) told on))
+pub read_touches : (w : World) (t p amount : ℕ) (offset : ℤ) (k : Part) → touches_read w t p amount offset k → Touches w t p READ (reads amount w) k
+read_touches w t p amount offset k = parts_of (read_asks w t p offset) _ k (λ a is. parts_of (asked_at (reads amount w a) a.node w) _ k (λ d told on.
+    touched w t p READ (reads amount w) k a d (read_handle w t p offset a is) told on))
 
-pub write_touches : (w : World) (t p : ℕ) (bytes : List ℕ) (offset : ℤ) (k : Part) → touches_write w t p bytes offset k → Touches w t p WRITE (writes bytes) k
-write_touches w t p bytes offset k = parts_of (write_asks w t p offset) _ k (λ a is. parts_of (asked_at (writes bytes a.at) a.node w) _ k (λ d told on.
-    touched w t p WRITE (writes bytes) k a d (write_handle w t p offset a is) told on))
+pub write_touches : (w : World) (t p : ℕ) (bytes : List ℕ) (offset : ℤ) (k : Part) → touches_write w t p bytes offset k → Touches w t p WRITE (writes bytes w) k
+write_touches w t p bytes offset k = parts_of (write_asks w t p offset) _ k (λ a is. parts_of (asked_at (writes bytes w a) a.node w) _ k (λ d told on.
+    touched w t p WRITE (writes bytes w) k a d (write_handle w t p offset a is) told on))
 
 -- what holds of no changes, and of an edit of an open, holds of what moves a cursor
 pub moved_all : (P : List Change → Type 0) → P [] → ((o : Name) (f : Opened → Opened) → P (EditOpen o f ∷ [])) → (f : Offset) (stream : Bool) (o : Name) (k : ℕ) → P (moved f stream o k)

@@ -19,7 +19,7 @@ use Rattle.hurd_machine.specs.declared.call.Reply.TheVariants as reply
 pub use Rattle.hurd_io.specs.declared.offset.Offset.{Offset}
 use Rattle.hurd_io.specs.declared.offset.Offset.TheVariants.{Place, Cursor}
 pub use Rattle.hurd_io.specs.declared.offset.IoAt.{IoAt}
-use Rattle.hurd_machine.specs.World.{World, active_at, asked_at, nodes_of, stream_at}
+use Rattle.hurd_machine.specs.World.{World, active_at, asked_at, nodes_of, readers_at, stream_at, writers_at}
 use Rattle.hurd_machine.specs.Change.{Change, EditOpen, changes_of}
 use Rattle.hurd_machine.specs.Plan.{Plan, given, first, answered, looks}
 use Rattle.hurd_machine.specs.Handle.{Named, port_asks, handle_asks}
@@ -66,22 +66,24 @@ abbrev pub io_changes : {T : Type 0} → IoAt → Did T → ℕ → List Change
 io_changes a d count = changes_of (edits_of a.node (Ok d)) ++ moved a.offset a.is_stream a.open_name (past a.at count)
 
 -- a read or a write: at the place that is asked for, a question to the server; its answer, and how many bytes that is
-abbrev pub plan_io : {T : Type 0} → World → Result IoAt Errno → (ℕ → Question T) → (T → Reply) → (T → ℕ) → Plan
+abbrev pub plan_io : {T : Type 0} → World → Result IoAt Errno → (IoAt → Question T) → (T → Reply) → (T → ℕ) → Plan
 plan_io w asks q reply count =
-    answered asks (λ a. answered (asked_at (q a.at) a.node w) (λ d. record { reply = reply d.told; changes = io_changes a d (count d.told) }))
+    answered asks (λ a. answered (asked_at (q a) a.node w) (λ d. record { reply = reply d.told; changes = io_changes a d (count d.told) }))
 
-abbrev pub touches_io : {T : Type 0} → World → Result IoAt Errno → (ℕ → Question T) → Part → Type 0
-touches_io w asks q = asked_parts asks (λ a. asked_parts (asked_at (q a.at) a.node w) (λ d p. OnDid a.node d p ⊎ Moves a.offset a.is_stream a.open_name p))
+abbrev pub touches_io : {T : Type 0} → World → Result IoAt Errno → (IoAt → Question T) → Part → Type 0
+touches_io w asks q = asked_parts asks (λ a. asked_parts (asked_at (q a) a.node w) (λ d p. OnDid a.node d p ⊎ Moves a.offset a.is_stream a.open_name p))
 
 -- a read or a write that needs no memory: it is refused before the server is asked, or needs none there, at the place that is asked for
-abbrev pub free_io : World → Result IoAt Errno → (ℕ → Name → NodeState → Type 0) → Type 0
-free_io w asks free = IfOk asks (λ a. free a.at a.node (nodes_of w))
+abbrev pub free_io : World → Result IoAt Errno → (IoAt → Name → NodeState → Type 0) → Type 0
+free_io w asks free = IfOk asks (λ a. free a a.node (nodes_of w))
 
-abbrev pub reads : ℕ → ℕ → Question (List ℕ)
-reads amount at = reading at (min amount most_read)
+-- the server is told how many opens write the node that is read, and read the one that is written, if it is to know
 
-abbrev pub writes : List ℕ → ℕ → Question ℕ
-writes bytes at = writing at bytes
+abbrev pub reads : ℕ → World → IoAt → Question (List ℕ)
+reads amount w a = reading a.at (min amount most_read) (writers_at w a.node)
+
+abbrev pub writes : List ℕ → World → IoAt → Question ℕ
+writes bytes w a = writing a.at bytes (readers_at w a.node)
 
 -- all that a read asks but of the server, with its refusals in order
 abbrev pub read_asks : World → ℕ → ℕ → ℤ → Result IoAt Errno
@@ -92,14 +94,14 @@ read_asks w t p offset =
 
 -- io_read: the bytes
 abbrev pub plan_read : World → ℕ → ℕ → ℕ → ℤ → Plan
-plan_read w t p amount offset = plan_io w (read_asks w t p offset) (reads amount) Data length
+plan_read w t p amount offset = plan_io w (read_asks w t p offset) (reads amount w) Data length
 
 abbrev pub touches_read : World → ℕ → ℕ → ℕ → ℤ → Part → Type 0
-touches_read w t p amount offset = touches_io w (read_asks w t p offset) (reads amount)
+touches_read w t p amount offset = touches_io w (read_asks w t p offset) (reads amount w)
 
 -- a read that needs no memory, as it gives nothing
 abbrev pub free_read : World → ℕ → ℕ → ℕ → ℤ → Type 0
-free_read w t p amount offset = free_io w (read_asks w t p offset) (λ at. FreeRead at (min amount most_read))
+free_read w t p amount offset = free_io w (read_asks w t p offset) (λ a. FreeRead a.at (min amount most_read) (writers_at w a.node))
 
 -- the cursor that a write begins at: with APPEND it is first set to the size
 abbrev pub write_cursor : Handle → ℕ
@@ -111,14 +113,14 @@ write_asks w t p offset = first (handle_asks w t p WRITE) (λ a. first (offset_o
 
 -- io_write: how many bytes were taken
 abbrev pub plan_write : World → ℕ → ℕ → List ℕ → ℤ → Plan
-plan_write w t p bytes offset = plan_io w (write_asks w t p offset) (writes bytes) Count (λ n. n)
+plan_write w t p bytes offset = plan_io w (write_asks w t p offset) (writes bytes w) Count (λ n. n)
 
 abbrev pub touches_write : World → ℕ → ℕ → List ℕ → ℤ → Part → Type 0
-touches_write w t p bytes offset = touches_io w (write_asks w t p offset) (writes bytes)
+touches_write w t p bytes offset = touches_io w (write_asks w t p offset) (writes bytes w)
 
 -- a write that needs no memory: of no data, over bytes that are there, or to a stream
 abbrev pub free_write : World → ℕ → ℕ → List ℕ → ℤ → Type 0
-free_write w t p bytes offset = free_io w (write_asks w t p offset) (λ at. FreeWrite at bytes)
+free_write w t p bytes offset = free_io w (write_asks w t p offset) (λ a. FreeWrite a.at bytes)
 
 -- what is told of a port's node: its attributes, and whether a server is active on it
 abbrev pub stat_at : World → Named → Stat

@@ -1,6 +1,6 @@
 -- The laws of one step, from those of each call: each call has a line.
-use Rattle.std.proofs.Common.{ℕ, [], ◌∷◌, sym}
-use Rattle.hurd_machine.proofs.Common.{AttrOf, BodyOf, Call, EmptyOf, OpenOf, OptionsOf, Part, TaskOf, TextOf, UsersOf, World, box_in}
+use Rattle.std.proofs.Common.{ℕ, sym}
+use Rattle.hurd_machine.proofs.Common.{AttrOf, BodyOf, Call, EmptyOf, EndsOf, OpenOf, OptionsOf, Part, TaskOf, TextOf, UsersOf, World, box_in}
 use Rattle.hurd_machine.specs.declared.call.Call.TheVariants.{PortDeallocate, PortSend, PortReceive, AuthMakeauth, DirLookup, IoRead, IoWrite, IoSeek, IoStat, IoReadable, IoGetOpenmodes, IoSetAllOpenmodes, IoDuplicate, IoReauthenticate, IoRestrictAuth, IoIdentity, FileSetSize, FileChmod, FileChown, FileCheckAccess, FileSetTranslator, FileGetTranslator, FileGetTranslatorCntl, FileGetcontrol, FsysStartup, StartFailed, FsysGetroot, FsysGoaway, FsysGetOptions, FsysSetOptions, DirReaddir, DirMkdir, DirRmdir, DirUnlink, DirLink, DirMkfile, DirRename}
 use Rattle.hurd_machine.proofs.Frame.{IsUnnamed, gone_kept}
 use Rattle.hurd_machine.proofs.CallLaws.{CallLaws, returning_laws}
@@ -23,7 +23,7 @@ use Rattle.hurd_dirs.proofs.RemoveLaws.{rmdir_laws, unlink_laws}
 use Rattle.hurd_dirs.proofs.LinkLaws.{link_laws}
 use Rattle.hurd_dirs.proofs.RenameLaws.{rename_laws}
 use Rattle.hurd_laws.specs.Step.{row, plan, touches, after}
-use Rattle.hurd_laws.specs.Laws.{IsOld, ChangesTouched, GoneUnseen, OthersUnseen, OwnFromView, StaysSound, StaysCounted, CountedRun, NeverWantsMemory}
+use Rattle.hurd_laws.specs.Laws.{IsOld, ChangesTouched, GoneUnseen, OthersUnseen, OwnFromView, StaysSound, NeverWantsMemory}
 
 row_laws : (t : ℕ) (c : Call) → CallLaws t (λ w. row w t c) (λ w. touches w t c)
 row_laws t (PortDeallocate p) = deallocate_laws t p
@@ -73,6 +73,7 @@ pub old_named : (w : World) (p : Part) → IsOld w p → IsUnnamed w p → ⊥
 old_named w (AttrOf n) old new = new old
 old_named w (EmptyOf n) old new = new old
 old_named w (BodyOf n) old new = new old
+old_named w (EndsOf n) old new = new old
 old_named w (OpenOf o) old new = new old
 old_named w (OptionsOf s) old new = new old
 old_named w (TextOf s) old new = new old
@@ -93,14 +94,6 @@ own_from_view S v w t c sv sw ours view = call.own_from_view t _ _ (laws_of t c)
 
 pub stays_sound : StaysSound
 stays_sound w t c s = call.stays_sound t _ _ (laws_of t c) w s
-
-pub stays_counted : StaysCounted
-stays_counted w t c s can counted = call.stays_counted t _ _ (laws_of t c) w s can counted
-
-pub counted_run : CountedRun
-counted_run w [] s can counted = counted
-counted_run w (m ∷ ms) s can counted =
-    counted_run (after w m.task m.call) ms (stays_sound w m.task m.call s) can.1 (stays_counted w m.task m.call s can.0 counted)
 
 pub never_wants_memory : NeverWantsMemory
 never_wants_memory w t c = (laws_of t c).plain w

@@ -8,7 +8,7 @@ use Rattle.hurd_trans_iface.specs.Behaviour.{reading}
 use Rattle.hurd_trans_iface.proofs.Goods.{good}
 use Rattle.hurd_nodes.specs.Needs.{streams_by}
 use Rattle.hurd_nodes.specs.Shown.{ServerInfo, asked_of}
-use Rattle.hurd_machine.proofs.Common.{AttrOf, BodyOf, Control, Did, Errno, Holds, IdSets, Io, Mode, Name, Named, OnDid, OnDrop, OnRight, OpenFlags, OpenOf, Part, Question, READ, Right, Seen, Sound, Start, TaskOf, UsersOf, WRITE, World, asked_at, asked_parts, bare, handle_asks, info_at, owns, port_asks, ports_of, stream_at}
+use Rattle.hurd_machine.proofs.Common.{AttrOf, BodyOf, Control, Did, EndsOf, Errno, Holds, IdSets, Io, Mode, Name, Named, OnDid, OnDrop, OnRight, OpenFlags, OpenOf, Part, Question, READ, Right, Seen, Sound, Start, TaskOf, UsersOf, WRITE, World, asked_at, asked_parts, bare, handle_asks, info_at, owns, port_asks, ports_of, stream_at}
 use Rattle.hurd_machine.specs.World.{node_at}
 use Rattle.hurd_machine.specs.declared.handle.Handle.{Handle}
 use Rattle.hurd_machine.specs.declared.call.Whence.{Whence}
@@ -26,7 +26,7 @@ use Rattle.hurd_io.proofs.Touching.{Touches, read_touches, write_touches}
 use Rattle.hurd_files.specs.Files.{set_size_asks, touches_set_size}
 use Rattle.hurd_files.specs.Access.{gives, setting_asks, touches_chmod, touches_chown}
 use Rattle.hurd_files.proofs.AccessLaws.{may_set}
-use Rattle.hurd_laws.specs.Integrity.{HasOpen, Owns, Owned, MayChange, Counted, Sized, Written, Drained, ToWrite, ToDrain}
+use Rattle.hurd_laws.specs.Integrity.{HasOpen, Owns, Owned, MayChange, ByOpens, Sized, Written, Drained, ToWrite, ToDrain}
 
 -- of a call of task t: what it touches, whoever has the task may change
 abbrev pub Allowed : ℕ → (World → Part → Type 0) → Type 0
@@ -56,7 +56,7 @@ module _ {S : ℕ → Bool} {w : World} where
 
   drop_may : (r : Right) → Holds S w r → (p : Part) → OnDrop w r p → MayChange S w p
   drop_may (Io r) h p (inl on) = right_may (Io r) h p on
-  drop_may (Io r) h p (inr on) = may_at S w p (AttrOf r.node) on.1 (Counted (record { counts = on.0; seen = Held r h refl }))
+  drop_may (Io r) h p (inr on) = may_at S w p (EndsOf r.node) on.1 (ByOpens (record { counts = on.0; seen = Held r h refl }))
   drop_may (Control s) h p on = absurd on
   drop_may (Start n) h p on = absurd on
 
@@ -92,8 +92,8 @@ wrote_may {S} {w} n d h p (inl on) = may_at S w p (BodyOf n) on.1 (ToWrite h)
 wrote_may {S} {w} n d h p (inr on) = may_at S w p (AttrOf n) on.1 (Sized (Written h))
 
 -- what the server does to a node, or the cursor of its open
-io_may : {S : ℕ → Bool} {w : World} {T : Type 0} (t : ℕ) → S t ≡ true → (p mode : ℕ) (q : ℕ → Question T) (k : Part) → (u : Touches w t p mode q k)
-    → ((d : Did T) → HasOpen S w u.handle.node mode → (at : ℕ) → asked_at (q at) u.handle.node w ≡ Ok d → OnDid u.handle.node d k → MayChange S w k) → MayChange S w k
+io_may : {S : ℕ → Bool} {w : World} {T : Type 0} (t : ℕ) → S t ≡ true → (p mode : ℕ) (q : _ → Question T) (k : Part) → (u : Touches w t p mode q k)
+    → ((d : Did T) → HasOpen S w u.handle.node mode → (a : _) → asked_at (q a) u.handle.node w ≡ Ok d → OnDid u.handle.node d k → MayChange S w k) → MayChange S w k
 io_may {S} {w} t ours p mode q k u did = elim u.on [
   | inl on ↦ did on.1 (has_open t ours p mode u.handle u.is_handle) on.0 on.2 on.3
   | inr e ↦ may_at S w k (OpenOf u.handle.open_name) e (open_may t ours p mode u.handle u.is_handle)
@@ -102,34 +102,34 @@ io_may {S} {w} t ours p mode q k u did = elim u.on [
 pub write_may : (t p : ℕ) (bytes : List ℕ) (offset : ℤ) → Allowed t (λ w. touches_write w t p bytes offset)
 write_may t p bytes offset S w s ours k on =
     let u = write_touches w t p bytes offset k on in
-    io_may t ours p WRITE (writes bytes) k u (λ d h at told did. wrote_may u.handle.node d h k did)
+    io_may t ours p WRITE (writes bytes w) k u (λ d h a told did. wrote_may u.handle.node d h k did)
 
 -- a read changes a stream alone
 
-asked_keeps : (w : World) (n : Name) (at amount : ℕ) (d : Did (List ℕ)) → asked_at (reading at amount) n w ≡ Ok d → stream_at w n ≡ false → (d.bytes ≡ None) × (d.size ≡ None)
-asked_keeps w n at amount d is lone = by (info_at w n) (node_at w n) is lone
+asked_keeps : (w : World) (n : Name) (at amount writers : ℕ) (d : Did (List ℕ)) → asked_at (reading at amount writers) n w ≡ Ok d → stream_at w n ≡ false → (d.bytes ≡ None) × (d.size ≡ None)
+asked_keeps w n at amount writers d is lone = by (info_at w n) (node_at w n) is lone
   where
-    by : (i : Option ServerInfo) (x : Option Node) → asked_of (reading at amount) i x ≡ Ok d → streams_by i ≡ false → (d.bytes ≡ None) × (d.size ≡ None)
+    by : (i : Option ServerInfo) (x : Option Node) → asked_of (reading at amount writers) i x ≡ Ok d → streams_by i ≡ false → (d.bytes ≡ None) × (d.size ≡ None)
     by None x e l = absurd (cc (e))
     by (Some i) None e l = absurd (cc (e))
-    by (Some i) (Some x) e l = (good i.kind).read_keeps i.text l x at amount d e
+    by (Some i) (Some x) e l = (good i.kind).read_keeps i.text l x at amount writers d e
 
 -- what it changes was open to read, of a stream
-pub read_drains : {S : ℕ → Bool} {w : World} (n : Name) (at amount : ℕ) (d : Did (List ℕ)) → HasOpen S w n READ → asked_at (reading at amount) n w ≡ Ok d → Changes d.bytes ⊎ Changes d.size → stream_at w n ≡ true
-read_drains {S} {w} n at amount d h told changes = by (stream_at w n) refl
+pub read_drains : {S : ℕ → Bool} {w : World} (n : Name) (at amount writers : ℕ) (d : Did (List ℕ)) → HasOpen S w n READ → asked_at (reading at amount writers) n w ≡ Ok d → Changes d.bytes ⊎ Changes d.size → stream_at w n ≡ true
+read_drains {S} {w} n at amount writers d h told changes = by (stream_at w n) refl
   where
     by : (b : Bool) → stream_at w n ≡ b → stream_at w n ≡ true
     by true is = is
-    by false is = let k = asked_keeps w n at amount d told is in elim changes [ inl c ↦ absurd (subst Changes k.0 c) | inr c ↦ absurd (subst Changes k.1 c) ]
+    by false is = let k = asked_keeps w n at amount writers d told is in elim changes [ inl c ↦ absurd (subst Changes k.0 c) | inr c ↦ absurd (subst Changes k.1 c) ]
 
 pub read_may : (t p amount : ℕ) (offset : ℤ) → Allowed t (λ w. touches_read w t p amount offset)
 read_may t p amount offset S w s ours k on =
     let u = read_touches w t p amount offset k on in
-    io_may t ours p READ (reads amount) k u (λ d h at told did. drained u.handle.node d h at told did)
+    io_may t ours p READ (reads amount w) k u (λ d h a told did. drained u.handle.node d h a told did)
   where
-    drained : (n : Name) (d : Did (List ℕ)) → HasOpen S w n READ → (at : ℕ) → asked_at (reads amount at) n w ≡ Ok d → OnDid n d k → MayChange S w k
-    drained n d h at told (inl on) = may_at S w k (BodyOf n) on.1 (ToDrain h (read_drains n at _ d h told (inl on.0)))
-    drained n d h at told (inr on) = may_at S w k (AttrOf n) on.1 (Sized (Drained h (read_drains n at _ d h told (inr on.0))))
+    drained : (n : Name) (d : Did (List ℕ)) → HasOpen S w n READ → (a : _) → asked_at (reads amount w a) n w ≡ Ok d → OnDid n d k → MayChange S w k
+    drained n d h a told (inl on) = may_at S w k (BodyOf n) on.1 (ToDrain h (read_drains n a.at _ _ d h told (inl on.0)))
+    drained n d h a told (inr on) = may_at S w k (AttrOf n) on.1 (Sized (Drained h (read_drains n a.at _ _ d h told (inr on.0))))
 
 pub seek_may : (t p : ℕ) (offset : ℤ) (whence : Whence) → Allowed t (λ w. touches_seek w t p offset whence)
 seek_may t p offset whence S w s ours q = parts_may (seek_asks w t p offset whence) _ q (λ a is on.

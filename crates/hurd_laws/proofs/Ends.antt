@@ -1,7 +1,7 @@
 -- What goes by a call whose changes settle at their end alone: afterwards nobody sees it.
 use Rattle.std.proofs.Common.{◌≡◌, ◌⊎◌, ◌∙◌, List, [], ◌∷◌, ◌++◌, Option, Some, None, refl, sym, subst, inl, inr}
 use Rattle.std.specs.Option.{option_map}
-use Rattle.hurd_machine.proofs.Common.{AtRest, AttrOf, BodyOf, Change, Coherent, EmptyOf, IsGone, Linked, OpenOf, OptionsOf, Part, ServerInfo, Settle, TaskOf, TextOf, UsersOf, World, apply, apply_all, body_at, faced, header_at, is_empty_dir, part, server_at, site_at}
+use Rattle.hurd_machine.proofs.Common.{AttrOf, BodyOf, Change, Coherent, EmptyOf, EndsOf, IsGone, Linked, OpenOf, OptionsOf, Part, ServerInfo, Settle, TaskOf, TextOf, UsersOf, World, apply, apply_all, body_at, ends_at, faced, header_at, is_empty_dir, part, server_at, site_at}
 use Rattle.hurd_machine.specs.World.{nodes_of}
 use Rattle.hurd_machine.specs.Change.{settle}
 use Rattle.hurd_machine.proofs.Coherence.{AllProper}
@@ -40,6 +40,7 @@ gone_or : (w : World) (p : Part) → IsOrNot (IsGone w p)
 gone_or w (AttrOf n) = both_or (λ a b. cc (a, b)) (λ c. cc (c)) (λ c. cc (c)) (none_or (header_at w n)) (none_or (site_at w n))
 gone_or w (EmptyOf n) = one_or (λ a. cc (a)) (λ c. cc (c)) (none_or (option_map is_empty_dir (body_at w n)))
 gone_or w (BodyOf n) = one_or (λ a. cc (a)) (λ c. cc (c)) (none_or (body_at w n))
+gone_or w (EndsOf n) = one_or (λ a. cc (a)) (λ c. cc (c)) (none_or (ends_at w n))
 gone_or w (OptionsOf s) = one_or (λ a. cc (a)) (λ c. cc (c)) (none_or (option_map faced (server_at w s)))
 gone_or w (TextOf s) = one_or (λ a. cc (a)) (λ c. cc (c)) (none_or (option_map (λ (i : ServerInfo). i.text) (server_at w s)))
 gone_or w (OpenOf o) = inr (λ c. c)
@@ -50,15 +51,16 @@ gone_same : (w x : World) (p : Part) → IsGone w p → IsGone x p → part x p 
 gone_same w x (AttrOf n) a b = b ∙ sym a
 gone_same w x (EmptyOf n) a b = b ∙ sym a
 gone_same w x (BodyOf n) a b = b ∙ sym a
+gone_same w x (EndsOf n) a b = b ∙ sym a
 gone_same w x (OptionsOf s) a b = b ∙ sym a
 gone_same w x (TextOf s) a b = b ∙ sym a
 gone_same w x (OpenOf o) a b = absurd a
 gone_same w x (UsersOf s) a b = absurd a
 gone_same w x (TaskOf t) a b = absurd a
 
-module _ (w : World) (rest : AtRest w) (p : Part) (T : Part → Type 0) (out : T p → ⊥) where
+module _ (w : World) (p : Part) (T : Part → Type 0) (out : T p → ⊥) where
   settled : (x : World) → Coherent x → Linked (nodes_of x) → part x p ≡ part w p → Stays w (settle x) p
-  settled x c l e = elim (settle_part w rest p x c l (inl e)) [
+  settled x c l e = elim (settle_part w p x c l (inl e)) [
     | inl same ↦ inl same
     | inr gone ↦ elim (gone_or w p) [
       | inl was ↦ inl (gone_same w (settle x) p was gone)

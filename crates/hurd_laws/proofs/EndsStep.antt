@@ -5,9 +5,9 @@ use Rattle.hurd_creds.specs.TransBits.{ORPHAN}
 use Rattle.hurd_trans_iface.specs.Nodes.{Edit, OnHeader, OnBody, AddNode}
 use Rattle.hurd_creds.specs.declared.open_flags.OpenFlags.{OpenFlags}
 use Rattle.hurd_ports.specs.declared.table.PendingStart.{PendingStart}
-use Rattle.hurd_machine.proofs.Common.{Call, Change, DropServer, EditBody, EditHeader, Errno, IdSets, Meaning, Name, Named, Plan, SET, ServerInfo, Settle, Task, Unseat, World, answered, asks_trans, box_in, changes_of, closes, same_name}
+use Rattle.hurd_machine.proofs.Common.{Call, Change, DropServer, EditBody, EditHeader, Errno, IdSets, Meaning, Name, Named, Plan, SET, ServerInfo, Settle, Task, Unseat, World, answered, asks_trans, box_in, changes_of, open_of, same_name}
 use Rattle.hurd_machine.specs.declared.call.Setting.{Setting}
-use Rattle.hurd_machine.specs.Change.{closing, retexting}
+use Rattle.hurd_machine.specs.Change.{letting_go, retexting}
 use Rattle.hurd_machine.specs.Plan.{returning}
 use Rattle.hurd_machine.specs.declared.call.Call.TheVariants.{PortDeallocate, PortSend, PortReceive, AuthMakeauth, DirLookup, IoRead, IoWrite, IoSeek, IoSetAllOpenmodes, IoDuplicate, IoReauthenticate, IoRestrictAuth, FileSetSize, FileChmod, FileChown, FileSetTranslator, FileGetTranslatorCntl, FileGetcontrol, FsysStartup, StartFailed, FsysGetroot, FsysGoaway, FsysSetOptions, DirMkdir, DirRmdir, DirUnlink, DirLink, DirMkfile, DirRename}
 use Rattle.hurd_machine.proofs.Frame.{IsExact}
@@ -16,13 +16,12 @@ use Rattle.hurd_machine.proofs.Asks.{answered_all}
 use Rattle.hurd_core.specs.declared.to_make.ServerToMake.{ServerToMake}
 use Rattle.hurd_core.specs.Core.{attaching, leaving, starting_over}
 use Rattle.hurd_io.proofs.Touching.{moved_all}
-use Rattle.hurd_lookup.specs.Lookup.{Makes, Opens, Outcome, Retries, Starts, lookup_changes, no_modes}
+use Rattle.hurd_lookup.specs.Lookup.{Makes, Opens, Outcome, Retries, Starts, lookup_changes}
 use Rattle.hurd_lookup.specs.Lent.{server_ids}
-use Rattle.hurd_trans_iface.specs.Nodes.{closed_by, counting, opened_by, unlinked, with_passive, without_entry}
+use Rattle.hurd_trans_iface.specs.Nodes.{unlinked, with_passive, without_entry}
 use Rattle.hurd_trans_iface.specs.Answers.{entering}
 use Rattle.hurd_trans_iface.specs.Behaviour.{edits_of}
 use Rattle.hurd_ports.specs.Tables.{fresh}
-use Rattle.hurd_machine.specs.World.{counts_at}
 use Rattle.hurd_trans_iface.specs.Meaning.{size_of}
 use Rattle.hurd_nodes.specs.Shown.{own_nodes, sizing}
 use Rattle.hurd_fsys.specs.Setting.{leaver, seat_on, emptying, storing, seated, setting_where, sets_nothing}
@@ -81,18 +80,18 @@ by_option : {A : Type 0} (P : Option A → Type 0) → P None → ((a : A) → P
 by_option P x y None = x
 by_option P x y (Some a) = y a
 
-closing_plain : (w : World) (o : Option (Name × OpenFlags)) → Plain (closing w o)
-closing_plain w None = none
-closing_plain w (Some e) = edits (counting (counts_at w e.0) e.0 (closed_by e.1))
+letting_plain : (o : Option Name) → Plain (letting_go o)
+letting_plain None = none
+letting_plain (Some o) = cons tt none
 
 -- lookups
 
-lookup_ends : (w : World) (t : ℕ) (x : Task) (modes : OpenFlags) (o : Outcome) → Ends (lookup_changes w t x modes o)
-lookup_ends w t x modes (Opens e) = never (cons tt (cons tt (edits (counting (counts_at w e.node) e.node (opened_by modes)))))
-lookup_ends w t x modes (Makes s f ids ways) = never (cons tt (both (edits (entering f.dir f.entry (fresh t x))) (cons tt (cons tt none))))
-lookup_ends w t x modes (Retries kind name None) = Never tt
-lookup_ends w t x modes (Retries kind name (Some e)) = never (cons tt (cons tt (edits (counting (counts_at w e.node) e.node (opened_by no_modes)))))
-lookup_ends w t x modes (Starts s) = one_ends tt
+lookup_ends : (t : ℕ) (x : Task) (modes : OpenFlags) (o : Outcome) → Ends (lookup_changes t x modes o)
+lookup_ends t x modes (Opens e) = Never (tt, (tt, tt))
+lookup_ends t x modes (Makes s f ids ways) = never (cons tt (both (edits (entering f.dir f.entry (fresh t x))) (cons tt (cons tt none))))
+lookup_ends t x modes (Retries kind name None) = Never tt
+lookup_ends t x modes (Retries kind name (Some e)) = Never (tt, (tt, tt))
+lookup_ends t x modes (Starts s) = one_ends tt
 
 -- servers
 
@@ -123,11 +122,11 @@ retexting_plain w s i None = none
 retexting_plain w s i (Some text) = cons tt (edits (sizing (size_of i.kind text) (own_nodes s w.sites)))
 
 row_ends : (w : World) (t : ℕ) (c : Call) → Ends (row w t c).changes
-row_ends w t (PortDeallocate p) = ends_answered _ _ (λ r. ends_cons tt (ends_then (closing_plain w (closes w r)) settle_ends))
+row_ends w t (PortDeallocate p) = ends_answered _ _ (λ r. ends_cons tt (ends_then (letting_plain (open_of r)) settle_ends))
 row_ends w t (PortSend p q) = ends_answered _ _ (λ r. Never (tt, tt))
 row_ends w t PortReceive = ends_answered _ _ (λ x. Never (tt, tt))
 row_ends w t (AuthMakeauth ids) = ends_answered _ _ (λ x. Never (tt, tt))
-row_ends w t (DirLookup p path flags mode) = ends_answered _ _ (λ l. lookup_ends w t l.1 _ l.0)
+row_ends w t (DirLookup p path flags mode) = ends_answered _ _ (λ l. lookup_ends t l.1 _ l.0)
 row_ends w t (IoRead p amount offset) = ends_answered _ _ (λ a. ends_answered _ _ (λ d. never (both (edits (edits_of a.node (Ok d))) (moved_all Plain none (λ o f. cons tt none) a.offset a.is_stream a.open_name _))))
 row_ends w t (IoWrite p bytes offset) = ends_answered _ _ (λ a. ends_answered _ _ (λ d. never (both (edits (edits_of a.node (Ok d))) (moved_all Plain none (λ o f. cons tt none) a.offset a.is_stream a.open_name _))))
 row_ends w t (IoSeek p offset whence) = ends_answered _ _ (λ s. Never (tt, tt))
@@ -144,7 +143,7 @@ row_ends w t (FileGetTranslatorCntl p) = ends_answered _ _ (λ s. ends_answered 
 row_ends w t (FileGetcontrol p) = ends_answered _ _ (λ s. ends_answered _ _ (λ x. Never (tt, tt)))
 row_ends w t (FsysStartup m) = ends_answered _ _ (λ s. started_ends t s m (startup_asks w t m s))
 row_ends w t StartFailed = ends_answered _ _ (λ s. one_ends tt)
-row_ends w t (FsysGetroot c dir flags) = ends_answered _ _ (λ l. lookup_ends w t l.1 _ l.0)
+row_ends w t (FsysGetroot c dir flags) = ends_answered _ _ (λ l. lookup_ends t l.1 _ l.0)
 row_ends w t (FsysGoaway c flags) = ends_answered _ _ (λ s. one_ends tt)
 row_ends w t (FsysSetOptions c words) = ends_answered _ _ (λ s. ends_answered _ _ (λ a. never (retexting_plain w s a.0 a.1)))
 row_ends w t (DirMkdir p name mode) = ends_answered _ _ (λ f. ends_answered _ _ (λ m. never (cons tt (edits (entering f.dir f.entry (fresh t m.0))))))

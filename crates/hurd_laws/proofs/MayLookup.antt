@@ -1,7 +1,7 @@
 -- What lookups touch, their callers may change.
 use Rattle.std.proofs.Common.{◌≡◌, ◌∙◌, ℕ, Bool, true, List, Some, None, refl, sym, ap, subst, inl, inr}
 use Rattle.std.specs.Prelude.{Result, Ok}
-use Rattle.hurd_machine.proofs.Common.{AttrOf, BodyOf, EmptyOf, Errno, Header, IoRight, Mode, Name, OpenFlags, Part, Seen, Taken, Task, UsersOf, World}
+use Rattle.hurd_machine.proofs.Common.{BodyOf, EmptyOf, EndsOf, Errno, Header, IdSets, Mode, Name, OpenFlags, Part, Seen, Taken, Task, UsersOf, World}
 use Rattle.hurd_machine.specs.Touched.{OnOpen}
 use Rattle.hurd_creds.specs.declared.attrs.Kind.TheVariants.{File}
 use Rattle.hurd_machine.proofs.Listed.{dir_kind}
@@ -20,14 +20,14 @@ use Rattle.hurd_lookup.proofs.BeginLaws.{seen_begins}
 use Rattle.hurd_lookup.proofs.EndLaws.{OutcomeSeen}
 use Rattle.hurd_lookup.proofs.FoundLaws.{FoundLaws}
 use Rattle.hurd_lookup.proofs.WalkLaws.{no_ids_taken, seen_ground, taken_powers}
-use Rattle.hurd_laws.specs.Integrity.{ActsWith, AsTask, ByRight, Counted, Entered, Enters, MayChange, ToEnter}
+use Rattle.hurd_laws.specs.Integrity.{ActsWith, AsTask, ByOpens, ByRight, Entered, Enters, MayChange, ToEnter}
 use Rattle.hurd_laws.proofs.Authority.{Allowed, ok_is, parts_may, may_at, node_may}
 
--- what was found by a right whose ids S acts with, S may touch
+-- what was found with ids that S acts with, S may touch
 
 opens_may : {S : ℕ → Bool} {w : World} (n : Name) → Seen S w n → (p : Part) → OnOpen w n p → MayChange S w p
 opens_may n seen p (inl on) = node_may n seen p on
-opens_may {S} {w} n seen p (inr on) = may_at S w p (AttrOf n) on.1 (Counted (record { counts = on.0; seen = seen }))
+opens_may {S} {w} n seen p (inr on) = may_at S w p (EndsOf n) on.1 (ByOpens (record { counts = on.0; seen = seen }))
 
 -- what S may do with what was found: it sees what is opened, and may enter the directory in which a file is made
 abbrev pub OutcomeMay : (ℕ → Bool) → World → Outcome → Type 0
@@ -37,15 +37,15 @@ OutcomeMay S w (Retries kind name None) = Unit {0}
 OutcomeMay S w (Retries kind name (Some e)) = Seen S w e.node
 OutcomeMay S w (Starts s) = Unit {0}
 
-found_may : {S : ℕ → Bool} {w : World} (q : IoRight) → ActsWith S w q.ids → (flags : OpenFlags) (o : Outcome) → OutcomeSeen S w flags o → MakesBy w q o → OutcomeMay S w o
-found_may q acts flags (Opens e) shown by = shown.on.node
-found_may {S} {w} q acts flags (Makes s f ids ways) shown by =
+found_may : {S : ℕ → Bool} {w : World} (own : IdSets) → ActsWith S w own → (flags : OpenFlags) (o : Outcome) → OutcomeSeen S w flags o → MakesBy w own o → OutcomeMay S w o
+found_may own acts flags (Opens e) shown by = shown.on.node
+found_may {S} {w} own acts flags (Makes s f ids ways) shown by =
     let m = may_make w f.dir (Some shown.leads.name) File tt shown.leads.may in
     let same : m.node.header ≡ by.0 = cc (ap header_in m.is_node, by.1) in
-    record { seen = shown.on.0.0; ids = q.ids; acts = acts; header = by.0; is_header = by.1; kind = ap (λ (h : Header). h.kind) (sym same) ∙ dir_kind m.node.header.kind m.dir; may = by.2 }
-found_may q acts flags (Retries kind name None) shown by = tt
-found_may q acts flags (Retries kind name (Some e)) shown by = shown.on.node
-found_may q acts flags (Starts s) shown by = tt
+    record { seen = shown.on.0.0; ids = own; acts = acts; header = by.0; is_header = by.1; kind = ap (λ (h : Header). h.kind) (sym same) ∙ dir_kind m.node.header.kind m.dir; may = by.2 }
+found_may own acts flags (Retries kind name None) shown by = tt
+found_may own acts flags (Retries kind name (Some e)) shown by = shown.on.node
+found_may own acts flags (Starts s) shown by = tt
 
 outcome_may : {S : ℕ → Bool} {w : World} (flags : OpenFlags) (o : Outcome) → OutcomeSeen S w flags o → OutcomeMay S w o → (p : Part) → lookup_parts w o p → MayChange S w p
 outcome_may flags (Opens e) shown may p on = opens_may e.node may p on
@@ -56,13 +56,13 @@ outcome_may flags (Retries kind name None) shown may p on = absurd on
 outcome_may flags (Retries kind name (Some e)) shown may p on = opens_may e.node may p on
 outcome_may flags (Starts s) shown may p on = absurd on
 
--- by which right something was found
+-- with which ids something was found
 record FoundBy (S : ℕ → Bool) (w : World) (o : Outcome) : Type 0 where
-  right : IoRight
-  acts : ActsWith S w right.ids
-  makes : MakesBy w right o
+  ids : IdSets
+  acts : ActsWith S w ids
+  makes : MakesBy w ids o
 
--- what was found is seen, by a right whose ids S acts with
+-- what was found is seen, with ids that S acts with
 module _ (t : ℕ) (flags : OpenFlags) (found : World → Result Outcome Errno) (l : FoundLaws t flags found) (by : (S : ℕ → Bool) (w : World) → S t ≡ true → (o : Outcome) → found w ≡ Ok o → FoundBy S w o) where
   record FindsSeen (S : ℕ → Bool) (w : World) (o : Outcome) : Type 0 where
     shown : OutcomeSeen S w flags o
@@ -75,16 +75,16 @@ module _ (t : ℕ) (flags : OpenFlags) (found : World → Result Outcome Errno) 
       let same : o.0 ≡ got.0 = ap (λ (z : Outcome × Task). z.0) (ok_is x.2) in
       let shown = (l w w _ _ _ _ (seen_ground (Agree-refl S w) (Taken S w) (taken_powers S w) (no_ids_taken S w)) (seen_begins (Agree-refl S w) t ours) _ (seen_lends (Agree-refl S w) t ours)).has o.0 o.1 in
       let k = by S w ours o.0 o.1 in
-      subst (FindsSeen S w) same (record { shown = shown; may = found_may k.right k.acts flags o.0 shown k.makes })
+      subst (FindsSeen S w) same (record { shown = shown; may = found_may k.ids k.acts flags o.0 shown k.makes })
 
   finding_may : Allowed t (λ w. finding_parts w t (found w))
   finding_may S w s ours p = parts_may (whole_asks w t (found w)) _ p (λ got is on. let k = finds_seen S w ours got is in outcome_may flags got.0 k.shown k.may p on)
 
 lookup_found : (t p : ℕ) (path : List ℕ) (flags : OpenFlags) (mode : Mode) (S : ℕ → Bool) (w : World) → S t ≡ true → (o : Outcome) → seeking_asks w t p path flags mode ≡ Ok o → FoundBy S w o
-lookup_found t p path flags mode S w ours o is = let k = lookup_by t p path flags mode w o is in record { right = k.0; acts = ByRight k.0 (holds_io t ours p k.0 k.1) refl; makes = k.2 }
+lookup_found t p path flags mode S w ours o is = let k = lookup_by t p path flags mode w o is in record { ids = k.0.ids; acts = ByRight k.0 (holds_io t ours p k.0 k.1) refl; makes = k.2 }
 
 root_found : (t c dir : ℕ) (flags : OpenFlags) (S : ℕ → Bool) (w : World) → S t ≡ true → (o : Outcome) → getroot_asks w t c dir (root_request flags) ≡ Ok o → FoundBy S w o
-root_found t c dir flags S w ours o is = let k = root_by t c dir flags w o is in record { right = k.0; acts = AsTask t ours k.1 k.2 k.3; makes = k.4 }
+root_found t c dir flags S w ours o is = let k = root_by t c dir flags w o is in record { ids = k.0.ids; acts = AsTask t ours k.0 k.1 refl; makes = k.2 }
 
 pub lookup_may : (t p : ℕ) (path : List ℕ) (flags : OpenFlags) (mode : Mode) → Allowed t (λ w. touches_lookup w t p path flags mode)
 lookup_may t p path flags mode = finding_may t flags (λ w. seeking_asks w t p path flags mode) (lookup.found_alike t p path flags mode) (lookup_found t p path flags mode)

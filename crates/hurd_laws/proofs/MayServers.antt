@@ -3,7 +3,7 @@ use Rattle.std.proofs.Common.{◌≡◌, ◌∙◌, ◌||◌, if◌then◌else�
 use Rattle.std.specs.Prelude.{Result, Ok, Err}
 use Rattle.hurd_trans_iface.specs.Kinds.{behaviour_of}
 use Rattle.hurd_nodes.specs.Shown.{ServerInfo, info_taken, takes_options}
-use Rattle.hurd_machine.proofs.Common.{AttrOf, BodyOf, Control, EmptyOf, Errno, Holds, Meaning, Name, Named, OptionsOf, Part, PendingStart, SET, Start, TextOf, UsersOf, World, active_at, asks_trans, ports_of, server_at}
+use Rattle.hurd_machine.proofs.Common.{AttrOf, BodyOf, Control, EmptyOf, EndsOf, Errno, Holds, Meaning, Name, Named, OptionsOf, Part, PendingStart, SET, Start, TextOf, UsersOf, World, active_at, asks_trans, ports_of, server_at}
 use Rattle.hurd_creds.specs.TransBits.{ORPHAN}
 use Rattle.hurd_creds.proofs.NameLaws.{same_name-itself}
 use Rattle.hurd_nodes.proofs.PartLaws.{and_both}
@@ -24,7 +24,7 @@ use Rattle.hurd_fsys.proofs.StartingLaws.{Starter, starter}
 use Rattle.hurd_machine.specs.World.{IsAmong}
 use Rattle.hurd_ports.specs.Tables.{start_of}
 use Rattle.std.specs.Prelude.{◌++◌, map, is_some}
-use Rattle.hurd_laws.specs.Integrity.{ByControl, BySeat, Gone, MayChange, Owned, Owns, RootOf, Rules, Seated, SentAway, Served, Sized, Started, ToEnter}
+use Rattle.hurd_laws.specs.Integrity.{ByControl, BySeat, Gone, MayChange, Owned, Owns, RootOf, Rules, Seated, SentAway, Served, Sized, Started, ToEnter, WithServer}
 use Rattle.hurd_laws.proofs.Authority.{Allowed, parts_may, may_at}
 
 -- a server that S may send away goes with all that is its own
@@ -33,6 +33,7 @@ goes_may S w s r (AttrOf n) (inl on) = Served s r on
 goes_may S w s r (AttrOf n) (inr on) = Seated (SentAway s r on)
 goes_may S w s r (EmptyOf n) on = Gone s r on
 goes_may S w s r (BodyOf n) on = ToEnter (Gone s r on)
+goes_may S w s r (EndsOf n) on = WithServer s r on
 goes_may S w s r (OptionsOf q) on = subst (Rules S w) (sym on) r
 goes_may S w s r (TextOf q) on = inr (subst (Rules S w) (sym on) r)
 goes_may S w s r (UsersOf q) on = inr (subst (Rules S w) (sym on) r)

@@ -77,7 +77,7 @@ Left S w x p = (part x p ≡ part w p) ⊎ (IsLost x p ⊎ IsDelivered S w x p)
 pub untouched : (w : World) (t : ℕ) (c : Call) (p : Part) → Sound w → IsOld w p → (touches w t c p → ⊥) → p ≢ TaskOf t → Stays w (after w t c) p
 untouched w t c p s old apart other =
     let q = ((laws_of t c).piece w s).piece in
-    ends_stays w s.settled p (Full w t (touches w t c)) unwritten (plan w t c).changes (plan_ends w t c) s.coherent q.proper q.within
+    ends_stays w p (Full w t (touches w t c)) unwritten (plan w t c).changes (plan_ends w t c) s.coherent q.proper q.within
   where
     unwritten : Full w t (touches w t c) p → ⊥
     unwritten (inl on) = apart on

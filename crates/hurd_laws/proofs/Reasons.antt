@@ -4,20 +4,19 @@ use Rattle.std.specs.Str.{bytes_eq}
 use Rattle.std.proofs.lemmas.Slice.Eq.{bytes_eq-Decides}
 use Rattle.hurd_creds.proofs.NameLaws.{get_apart}
 use Rattle.hurd_creds.specs.declared.mode.Mode.{Mode}
-use Rattle.hurd_creds.specs.declared.open_flags.OpenFlags.{OpenFlags}
 use Rattle.hurd_trans_iface.specs.Answers.{entry_in, entry_of}
-use Rattle.hurd_trans_iface.specs.Nodes.{Body, Content, Entry, Listing, closed_by, less_entry, linked, moved_to, on_bytes, opened_by, unlinked, with_attrs, with_body, with_entry, with_header, with_passive, with_size, without_entry}
+use Rattle.hurd_trans_iface.specs.Nodes.{Body, Content, Entry, Listing, less_entry, linked, moved_to, on_bytes, unlinked, with_attrs, with_body, with_entry, with_header, with_passive, with_size, without_entry}
 use Rattle.hurd_nodes.proofs.Sites.{active-apart, active-edited_apart, active-kept, active-left, less_active}
 use Rattle.hurd_nodes.specs.Held.{new_site}
 use Rattle.hurd_nodes.specs.Shown.{is_other}
 use Rattle.hurd_ports.specs.Steps.{named, with_sent}
-use Rattle.hurd_machine.proofs.Common.{Attach, Change, Coherent, DropServer, EditBody, EditHeader, EditOpen, EditTask, Header, Linked, MakeNode, MakeOpen, Name, Node, Send, ServerInfo, SetText, Settle, Unseat, World, active_at, apply, apply_all, body_at, get, insert, task_at}
+use Rattle.hurd_machine.proofs.Common.{Attach, Change, Coherent, DropServer, EditBody, EditHeader, EditOpen, EditTask, Header, LetGo, Linked, MakeNode, MakeOpen, Name, Node, Send, ServerInfo, SetText, Settle, Unseat, World, active_at, apply, apply_all, body_at, get, insert, task_at}
 use Rattle.hurd_machine.specs.Change.{stays}
 use Rattle.hurd_machine.specs.World.{nodes_of}
 use Rattle.hurd_machine.specs.Sound.{Below}
 use Rattle.hurd_machine.proofs.Nodes.{was_edited}
 use Rattle.hurd_machine.proofs.Sites.{not_home}
-use Rattle.hurd_machine.proofs.Retained.{kept_was}
+use Rattle.hurd_creds.proofs.Retained.{kept_was}
 use Rattle.hurd_machine.proofs.Tasks.{below_edit}
 use Rattle.hurd_machine.proofs.Coherence.{AllProper, Comes, Proper, next_apart, next_not}
 use Rattle.hurd_machine.proofs.Keeping.{coherent_one}
@@ -25,7 +24,7 @@ use Rattle.hurd_machine.proofs.Comes.{attach_is, come_world}
 use Rattle.hurd_machine.proofs.Drop.{drop_left}
 use Rattle.hurd_machine.proofs.Stays.{sweep}
 use Rattle.hurd_machine.proofs.Swept.{settle_keeps, sweep_left}
-use Rattle.hurd_laws.specs.Integrity.{ByReason, Enters, MayCount, MayLink, MaySeat, MaySize, Owns, SameOwned, TakenOut, Takes, TakesEntry}
+use Rattle.hurd_laws.specs.Integrity.{ByReason, Enters, MayLink, MaySeat, MaySize, Owns, SameOwned, TakenOut, Takes, TakesEntry}
 
 -- headers that differ by reasons
 
@@ -37,7 +36,7 @@ both_owned a b = record { kind = b.kind ∙ a.kind; owner = b.owner ∙ a.owner;
 
 module _ {S : ℕ → Bool} {w : World} {n : Name} where
   pub same_header : (h : Header) → ByReason S w n h h
-  same_header h = record { owned = λ out. same_owned h; size = λ out. refl; links = λ out. refl; parent = λ out. refl; readers = λ out. refl; writers = λ out. refl }
+  same_header h = record { owned = λ out. same_owned h; size = λ out. refl; links = λ out. refl; parent = λ out. refl }
 
   both_headers : {h k l : Header} → ByReason S w n h k → ByReason S w n k l → ByReason S w n h l
   both_headers a b = record {
@@ -45,17 +44,15 @@ module _ {S : ℕ → Bool} {w : World} {n : Name} where
     size = λ out. b.size out ∙ a.size out;
     links = λ out. b.links out ∙ a.links out;
     parent = λ out. b.parent out ∙ a.parent out;
-    readers = λ out. b.readers out ∙ a.readers out;
-    writers = λ out. b.writers out ∙ a.writers out;
   }
 
   -- each edit of a header
 
   pub attrs_by : Owns S w n → (owner group : ℕ) (mode : Mode) (h : Header) → ByReason S w n h (with_attrs owner group mode h)
-  attrs_by own owner group mode h = record { owned = λ out. absurd (out own); size = λ out. refl; links = λ out. refl; parent = λ out. refl; readers = λ out. refl; writers = λ out. refl }
+  attrs_by own owner group mode h = record { owned = λ out. absurd (out own); size = λ out. refl; links = λ out. refl; parent = λ out. refl }
 
   pub words_by : Owns S w n → (words : List (List ℕ)) (h : Header) → ByReason S w n h (with_passive words h)
-  words_by own words h = record { owned = λ out. absurd (out own); size = λ out. refl; links = λ out. refl; parent = λ out. refl; readers = λ out. refl; writers = λ out. refl }
+  words_by own words h = record { owned = λ out. absurd (out own); size = λ out. refl; links = λ out. refl; parent = λ out. refl }
 
   pub size_by : MaySize S w n → (k : ℕ) (h : Header) → ByReason S w n h (with_size k h)
   size_by may k h = record {
@@ -63,8 +60,6 @@ module _ {S : ℕ → Bool} {w : World} {n : Name} where
     size = λ out. absurd (out may);
     links = λ out. refl;
     parent = λ out. refl;
-    readers = λ out. refl;
-    writers = λ out. refl;
   }
 
   pub link_by : MayLink S w n → (h : Header) → ByReason S w n h (linked h)
@@ -73,8 +68,6 @@ module _ {S : ℕ → Bool} {w : World} {n : Name} where
     size = λ out. refl;
     links = λ out. absurd (out may);
     parent = λ out. refl;
-    readers = λ out. refl;
-    writers = λ out. refl;
   }
 
   pub unlink_by : Takes S w n → (h : Header) → ByReason S w n h (unlinked h)
@@ -83,8 +76,6 @@ module _ {S : ℕ → Bool} {w : World} {n : Name} where
     size = λ out. refl;
     links = λ out. absurd (out (TakenOut takes));
     parent = λ out. absurd (out takes);
-    readers = λ out. refl;
-    writers = λ out. refl;
   }
 
   pub move_by : Takes S w n → (dir : Name) (h : Header) → ByReason S w n h (moved_to dir h)
@@ -93,28 +84,6 @@ module _ {S : ℕ → Bool} {w : World} {n : Name} where
     size = λ out. refl;
     links = λ out. refl;
     parent = λ out. absurd (out takes);
-    readers = λ out. refl;
-    writers = λ out. refl;
-  }
-
-  pub open_by : MayCount S w n → (modes : OpenFlags) (h : Header) → ByReason S w n h (opened_by modes h)
-  open_by may modes h = record {
-    owned = λ out. record { kind = refl; owner = refl; group = refl; mode = refl; words = refl };
-    size = λ out. refl;
-    links = λ out. refl;
-    parent = λ out. refl;
-    readers = λ out. absurd (out may);
-    writers = λ out. absurd (out may);
-  }
-
-  pub close_by : MayCount S w n → (modes : OpenFlags) (h : Header) → ByReason S w n h (closed_by modes h)
-  close_by may modes h = record {
-    owned = λ out. record { kind = refl; owner = refl; group = refl; mode = refl; words = refl };
-    size = λ out. refl;
-    links = λ out. refl;
-    parent = λ out. refl;
-    readers = λ out. absurd (out may);
-    writers = λ out. absurd (out may);
   }
 
 -- what stands under a name in a body, and does so in another, by reasons
@@ -207,6 +176,7 @@ below_one x (Attach s at i node) p n b = below_edit x (apply (Attach s at i node
 below_one x (EditHeader m f) p n b = b
 below_one x (EditBody m g) p n b = b
 below_one x (EditOpen o f) p n b = b
+below_one x (LetGo o) p n b = b
 below_one x (DropServer s) p n b = b
 below_one x (Unseat m) p n b = b
 below_one x (SetText s text) p n b = b
@@ -275,7 +245,7 @@ module _ (S : ℕ → Bool) (w : World) where
       ∙ ap (λ (k : Bool). let o : Option Name = if k then None else active_at x n in o) (not_home s (active_at x n) (λ at. out (reason n (sym same ∙ at)))))
   before x (Unseat m) c p n b reason z e = unchanged e (λ out same. active-edited_apart x.sites m None n (λ here. out (subst (MaySeat S w) (sym here) reason)))
   before x Settle c p n b reason z e =
-      let was = settle_keeps (λ y. (q : Node) → get y.nodes n ≡ Some q → (get x.nodes n ≡ Some q) × (active_at y n ≡ active_at x n)) swept (λ y cy old. old) x c p (λ q f. (f, refl)) in
+      let was = settle_keeps (λ y. (q : Node) → get y.nodes n ≡ Some q → (get x.nodes n ≡ Some q) × (active_at y n ≡ active_at x n)) swept x c p (λ q f. (f, refl)) in
       let k = was z e in
       unchanged k.0 (λ out same. k.1)
     where
@@ -287,6 +257,7 @@ module _ (S : ℕ → Bool) (w : World) where
           (k.0, active-kept y.sites (stays y) n ∙ ap (λ (o : Bool). cond o (active_at y n) None) here.1 ∙ k.1)
   before x (MakeOpen o y) c p n b reason z e = unchanged e (λ out same. refl)
   before x (EditOpen o f) c p n b reason z e = unchanged e (λ out same. refl)
+  before x (LetGo o) c p n b reason z e = unchanged e (λ out same. refl)
   before x (EditTask q f) c p n b reason z e = unchanged e (λ out same. refl)
   before x (Send r q) c p n b reason z e = unchanged e (λ out same. refl)
   before x (SetText s text) c p n b reason z e = unchanged e (λ out same. refl)

@@ -1,25 +1,24 @@
 -- Each change of a node in a call of S has its reason: each call has a line.
-use Rattle.std.proofs.Common.{not, if◌then◌else◌, ℕ, Bool, true, false, List, [], ◌∷◌, ◌++◌, Option, Some, None, refl, ◌≡◌, ◌∙◌, ◌==◌, ◌||◌, sym, ap, subst, inl, inr}
+use Rattle.std.proofs.Common.{not, if◌then◌else◌, ℕ, Bool, true, false, List, [], ◌∷◌, ◌++◌, Option, Some, None, refl, ◌≡◌, ◌∙◌, ◌||◌, sym, ap, subst, inl, inr}
 use Rattle.std.specs.Prelude.{Result, Ok, Err}
 use Rattle.hurd_creds.specs.TransBits.{ORPHAN}
 use Rattle.hurd_creds.specs.declared.open_flags.OpenFlags.{OpenFlags}
 use Rattle.hurd_ports.specs.declared.table.PendingStart.{PendingStart}
-use Rattle.hurd_machine.proofs.Common.{Call, Change, DropServer, EditBody, EditHeader, Errno, IdSets, Meaning, Name, Named, Plan, SET, ServerInfo, Settle, Task, Unseat, World, answered, asks_trans, box_in, changes_of, closes, same_name}
+use Rattle.hurd_machine.proofs.Common.{Call, Change, DropServer, EditBody, EditHeader, Errno, IdSets, Meaning, Name, Named, Plan, SET, ServerInfo, Settle, Task, Unseat, World, answered, asks_trans, box_in, changes_of, open_of, same_name}
 use Rattle.hurd_machine.specs.declared.call.Setting.{Setting}
-use Rattle.hurd_machine.specs.Change.{closing, retexting}
+use Rattle.hurd_machine.specs.Change.{letting_go, retexting}
 use Rattle.hurd_machine.specs.Plan.{returning}
 use Rattle.hurd_machine.specs.declared.call.Call.TheVariants.{PortDeallocate, PortSend, PortReceive, AuthMakeauth, DirLookup, IoRead, IoWrite, IoSeek, IoSetAllOpenmodes, IoDuplicate, IoReauthenticate, IoRestrictAuth, FileSetSize, FileChmod, FileChown, FileSetTranslator, FileGetTranslatorCntl, FileGetcontrol, FsysStartup, StartFailed, FsysGetroot, FsysGoaway, FsysSetOptions, DirMkdir, DirRmdir, DirUnlink, DirLink, DirMkfile, DirRename}
 use Rattle.hurd_machine.proofs.Asks.{answered_all}
 use Rattle.hurd_core.specs.declared.to_make.ServerToMake.{ServerToMake}
 use Rattle.hurd_core.specs.Core.{attaching, leaving, starting_over}
 use Rattle.hurd_io.proofs.Touching.{moved_all}
-use Rattle.hurd_lookup.specs.Lookup.{Makes, Opens, Outcome, Retries, Starts, lookup_changes, no_modes}
+use Rattle.hurd_lookup.specs.Lookup.{Makes, Opens, Outcome, Retries, Starts, lookup_changes}
 use Rattle.hurd_lookup.specs.Lent.{server_ids}
-use Rattle.hurd_trans_iface.specs.Nodes.{closed_by, counting, opened_by, unlinked, with_passive, without_entry}
+use Rattle.hurd_trans_iface.specs.Nodes.{unlinked, with_passive, without_entry}
 use Rattle.hurd_trans_iface.specs.Answers.{entering}
 use Rattle.hurd_trans_iface.specs.Behaviour.{edits_of}
 use Rattle.hurd_ports.specs.Tables.{fresh}
-use Rattle.hurd_machine.specs.World.{counts_at}
 use Rattle.hurd_trans_iface.specs.Meaning.{size_of}
 use Rattle.hurd_nodes.specs.Shown.{own_nodes, sizing}
 use Rattle.hurd_fsys.specs.Setting.{leaver, seat_on, emptying, storing, seated, setting_where, sets_nothing}
@@ -39,15 +38,13 @@ use Rattle.hurd_laws.proofs.Authority.{chmod_owns, giver_owns, has_open, read_dr
 use Rattle.hurd_laws.proofs.MayDirs.{Removes, link_names, mkdir_enters, mkfile_enters, rename_moves, rmdir_removes, takes_node, unlink_removes}
 use Rattle.hurd_laws.proofs.MayLookup.{OutcomeMay, lookup_finds, root_finds}
 use Rattle.hurd_laws.proofs.MayServers.{goaway_rules, owner_owns, seat_active, start_held, takes_there}
-use Rattle.hurd_laws.proofs.Reasons.{AllReasoned, Reasoned, Since, attrs_by, bytes_by, close_by, enter_by, link_by, move_by, open_by, since_all, size_by, take_by, unlink_by, words_by}
+use Rattle.hurd_laws.proofs.Reasons.{AllReasoned, Reasoned, Since, attrs_by, bytes_by, enter_by, link_by, move_by, since_all, size_by, take_by, unlink_by, words_by}
 use Rattle.hurd_machine.proofs.Nodes.{body_in, header_in, node_of_header}
 use Rattle.hurd_machine.proofs.Retexting.{own_home}
 use Rattle.hurd_machine.proofs.Asks.{holds_right}
-use Rattle.hurd_machine.proofs.Common.{Body, Coherent, Holds, IsAmong, Node, Opened, READ, Right, Seen, Sound, WRITE, active_at, body_at, get, header_at, open_at, ports_of, server_at}
-use Rattle.hurd_machine.specs.Sight.{Held}
+use Rattle.hurd_machine.proofs.Common.{Body, Coherent, Holds, IsAmong, Node, READ, Sound, WRITE, active_at, body_at, get, header_at, ports_of, server_at}
 use Rattle.hurd_machine.specs.Touched.{Changes}
-use Rattle.hurd_ports.specs.declared.table.Right.TheVariants.{Io, Control, Start}
-use Rattle.hurd_ports.specs.Tables.{count_rights, names_open}
+use Rattle.hurd_ports.specs.declared.table.Right.TheVariants.{Control, Start}
 use Rattle.hurd_core.specs.Control.{control_of}
 use Rattle.hurd_fsys.proofs.ControlLaws.{control_is}
 use Rattle.hurd_fsys.proofs.StartingLaws.{starter}
@@ -60,7 +57,6 @@ use Rattle.hurd_trans_iface.proofs.Goods.{good}
 use Rattle.hurd_laws.specs.Step.{after}
 use Rattle.hurd_machine.specs.Sound.{Below}
 use Rattle.hurd_laws.proofs.MayStep.{parts_kept}
-use Rattle.std.specs.Option.{option_map}
 use Rattle.hurd_laws.proofs.EndsStep.{by_bool}
 
 -- what holds of either, with what it is
@@ -99,16 +95,6 @@ module _ {S : ℕ → Bool} {w : World} where
   entries dir None new enters = none
   entries dir (Some name) new enters = cons (enter_by enters name new) none
 
-  counted : (b : Bool) (m : Name) (f : Header → Header) → (b ≡ true → Reasoned S w (EditHeader m f)) → Reasons S w (changes_of (counting b m f))
-  counted true m f k = cons (k refl) none
-  counted false m f k = none
-
-  opened : (m : Name) (modes : OpenFlags) → Seen S w m → Reasons S w (changes_of (counting (counts_at w m) m (opened_by modes)))
-  opened m modes seen = counted (counts_at w m) m (opened_by modes) (λ counts. open_by (record { counts = counts; seen = seen }) modes)
-
-  closed : (m : Name) (modes : OpenFlags) → Seen S w m → Reasons S w (changes_of (counting (counts_at w m) m (closed_by modes)))
-  closed m modes seen = counted (counts_at w m) m (closed_by modes) (λ counts. close_by (record { counts = counts; seen = seen }) modes)
-
   sizes : (k : ℕ) (ms : List Name) → ((m : Name) → IsAmong m ms → MaySize S w m) → Reasons S w (changes_of (sizing k ms))
   sizes k [] may = none
   sizes k (m ∷ ms) may = cons (size_by (may m (inl refl)) k) (sizes k ms (λ n among. may n (inr among)))
@@ -127,26 +113,19 @@ reasoned : {A : Type 0} {S : ℕ → Bool} {w : World} (x : Result A Errno) (k :
 reasoned {S = S} {w = w} x k h = answered_all (λ P. Reasons S w P.changes) (λ e. none) x k h
 
 module _ (S : ℕ → Bool) (w : World) where
-  -- what goes with a right
-  closes_seen : (r : Right) → Holds S w r → (o : Option (Name × OpenFlags)) → closes w r ≡ o → Reasons S w (closing w o)
-  closes_seen r h None e = none
-  closes_seen (Io r) h (Some z) e = closed z.0 z.1 (subst (Seen S w) (by (count_rights (names_open r.open_name) w.tasks == 1) (open_at w r.open_name) e) (Held r h refl))
-    where
-      by : (b : Bool) (o : Option Opened) → (let k : Option (Name × OpenFlags) = if b then option_map (λ (p : Opened). (r.node, p.modes)) o else None in k) ≡ Some z → r.node ≡ z.0
-      by true None f = absurd (cc (f))
-      by true (Some p) f = let same : (r.node, p.modes) ≡ z = cc (f) in ap (λ (q : Name × OpenFlags). q.0) same
-      by false o f = absurd (cc (f))
-  closes_seen (Control q) h (Some z) e = absurd (cc (e))
-  closes_seen (Start n) h (Some z) e = absurd (cc (e))
+  -- an open that goes with a right is no node
+  letting_reasons : (o : Option Name) → Reasons S w (letting_go o)
+  letting_reasons None = none
+  letting_reasons (Some o) = cons tt none
 
   removing_reasons : (name : List ℕ) (x : Entered) → Removes S w name x → Reasons S w (removing name x).changes
   removing_reasons name x k = cons (take_by name x.node k.takes) (cons (unlink_by (takes_node k.takes)) settling)
 
-  lookup_reasons : (t : ℕ) (x : Task) (modes : OpenFlags) (o : Outcome) → OutcomeMay S w o → Reasons S w (lookup_changes w t x modes o)
-  lookup_reasons t x modes (Opens e) may = cons tt (cons tt (opened e.node modes may))
+  lookup_reasons : (t : ℕ) (x : Task) (modes : OpenFlags) (o : Outcome) → OutcomeMay S w o → Reasons S w (lookup_changes t x modes o)
+  lookup_reasons t x modes (Opens e) may = cons tt (cons tt none)
   lookup_reasons t x modes (Makes s f ids ways) may = cons tt (both (entries f.dir f.entry (fresh t x) may) (cons tt (cons tt none)))
   lookup_reasons t x modes (Retries kind name None) may = none
-  lookup_reasons t x modes (Retries kind name (Some e)) may = cons tt (cons tt (opened e.node no_modes may))
+  lookup_reasons t x modes (Retries kind name (Some e)) may = cons tt (cons tt none)
   lookup_reasons t x modes (Starts s) may = cons tt settling
 
   attaching_reasons : (t : ℕ) (p : ServerToMake) (ids : IdSets) (targets : List Name) (m : Meaning) (x : Task) → MaySeat S w p.seat → ((q : Name) → p.instead ≡ Some q → Rules S w q) → Reasons S w (attaching t p ids targets m x)
@@ -201,7 +180,7 @@ module _ (S : ℕ → Bool) (w : World) where
   -- by a task of S
   module _ (co : Coherent w) (t : ℕ) (ours : S t ≡ true) where
     row_reasons : (c : Call) → Reasons S w (row w t c).changes
-    row_reasons (PortDeallocate p) = reasoned _ _ (λ r is. cons tt (both (closes_seen r (holds_right t ours p r is) (closes w r) refl) settling))
+    row_reasons (PortDeallocate p) = reasoned _ _ (λ r is. cons tt (both (letting_reasons (open_of r)) settling))
     row_reasons (PortSend p q) = reasoned _ _ (λ r is. AreReasoned (tt, tt))
     row_reasons PortReceive = reasoned _ _ (λ x is. AreReasoned (tt, tt))
     row_reasons (AuthMakeauth ids) = reasoned _ _ (λ x is. AreReasoned (tt, tt))
@@ -209,7 +188,7 @@ module _ (S : ℕ → Bool) (w : World) where
     row_reasons (IoRead p amount offset) = reasoned _ _ (λ a is. reasoned _ _ (λ d told.
         let h = read_handle w t p offset a is in
         let held = subst (λ n. HasOpen S w n READ) h.node (has_open t ours p READ h.handle h.is_handle) in
-        both (effect a.node d (λ changes. Drained held (read_drains a.node a.at _ d held told (inr changes)))) (moved_all (Reasons S w) none (λ o f. cons tt none) a.offset a.is_stream a.open_name _)))
+        both (effect a.node d (λ changes. Drained held (read_drains a.node a.at _ _ d held told (inr changes)))) (moved_all (Reasons S w) none (λ o f. cons tt none) a.offset a.is_stream a.open_name _)))
     row_reasons (IoWrite p bytes offset) = reasoned _ _ (λ a is. reasoned _ _ (λ d told.
         let h = write_handle w t p offset a is in
         let held = subst (λ n. HasOpen S w n WRITE) h.node (has_open t ours p WRITE h.handle h.is_handle) in

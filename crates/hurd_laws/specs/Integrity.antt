@@ -17,7 +17,7 @@ use Rattle.hurd_ports.specs.Steps.{with_sent}
 use Rattle.std.specs.Option.{option_map}
 use Rattle.hurd_machine.specs.Calls.{Call}
 use Rattle.hurd_machine.specs.World.{World, task_at, open_at, header_at, body_at, home_at, active_at, server_at, stream_at, counts_at}
-use Rattle.hurd_machine.specs.Sight.{bare, Holds, Seen, Part, AttrOf, EmptyOf, BodyOf, OpenOf, OptionsOf, TextOf, UsersOf, TaskOf, IsGone, Sees, part}
+use Rattle.hurd_machine.specs.Sight.{bare, Holds, Seen, Part, AttrOf, EmptyOf, BodyOf, EndsOf, OpenOf, OptionsOf, TextOf, UsersOf, TaskOf, IsGone, Sees, part}
 use Rattle.hurd_machine.specs.Sound.{Sound}
 use Rattle.hurd_dirs.specs.Entry.{may_take}
 use Rattle.hurd_laws.specs.Step.{after}
@@ -90,7 +90,7 @@ pub data MayLink (S : ℕ → Bool) (w : World) (n : Name) : Type 0 where
   TakenOut : Takes S w n → MayLink S w n
   Named : (r : IoRight) → Holds S w (Io r) → n ≡ r.node → (d : Name) → Enters S w d → MayLink S w n
 
--- why it may change how many read and write it: its server counts them, and S sees it
+-- why it may change how many opens read and write it: its server is told, and S sees it
 pub record MayCount (S : ℕ → Bool) (w : World) (n : Name) : Type 0 where
   pub counts : counts_at w n ≡ true
   pub seen : Seen S w n
@@ -106,7 +106,6 @@ pub data MayAttr (S : ℕ → Bool) (w : World) (n : Name) : Type 0 where
   Owned : Owns S w n → MayAttr S w n
   Sized : MaySize S w n → MayAttr S w n
   Linked : MayLink S w n → MayAttr S w n
-  Counted : MayCount S w n → MayAttr S w n
   Seated : MaySeat S w n → MayAttr S w n
   Served : (s : Name) → Rules S w s → home_at w n ≡ Some s → MayAttr S w n
 
@@ -121,11 +120,17 @@ pub data MayBody (S : ℕ → Bool) (w : World) (n : Name) : Type 0 where
   ToDrain : HasOpen S w n READ → stream_at w n ≡ true → MayBody S w n
   ToEnter : MayEntries S w n → MayBody S w n
 
+-- how many opens read and write it: by its reason, or the node goes with its server
+pub data MayEnds (S : ℕ → Bool) (w : World) (n : Name) : Type 0 where
+  ByOpens : MayCount S w n → MayEnds S w n
+  WithServer : (s : Name) → Rules S w s → home_at w n ≡ Some s → MayEnds S w n
+
 -- S may change this part
 abbrev pub MayChange : (ℕ → Bool) → World → Part → Type 0
 MayChange S w (AttrOf n) = MayAttr S w n
 MayChange S w (EmptyOf n) = MayEntries S w n
 MayChange S w (BodyOf n) = MayBody S w n
+MayChange S w (EndsOf n) = MayEnds S w n
 MayChange S w (OpenOf o) = (r : IoRight) × Holds S w (Io r) × (r.open_name ≡ o)
 MayChange S w (OptionsOf s) = Rules S w s
 MayChange S w (TextOf s) = Holds S w (Control s) ⊎ Rules S w s
@@ -160,8 +165,6 @@ pub record ByReason (S : ℕ → Bool) (w : World) (n : Name) (h k : Header) : T
   pub size : (MaySize S w n → ⊥) → k.size ≡ h.size
   pub links : (MayLink S w n → ⊥) → k.links ≡ h.links
   pub parent : (Takes S w n → ⊥) → k.parent ≡ h.parent
-  pub readers : (MayCount S w n → ⊥) → k.readers ≡ h.readers
-  pub writers : (MayCount S w n → ⊥) → k.writers ≡ h.writers
 
 -- of what stands under a name in a directory: a node stays there unless S may take its entry, and where nothing is, nothing comes unless S may enter it
 pub record EntryByReason (S : ℕ → Bool) (w : World) (d : Name) (name : List ℕ) (b : Body) : Type 0 where

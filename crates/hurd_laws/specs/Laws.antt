@@ -4,17 +4,17 @@ use Rattle.hurd_creds.specs.declared.name.Name.{Name}
 use Rattle.hurd_ports.specs.Tables.{Task}
 use Rattle.hurd_machine.specs.Calls.{Call, lacks_memory}
 use Rattle.hurd_machine.specs.World.{World, task_at}
-use Rattle.hurd_machine.specs.Sight.{Seen, Part, AttrOf, EmptyOf, BodyOf, OpenOf, OptionsOf, TextOf, UsersOf, TaskOf, Sees, SameView, IsGone, part}
+use Rattle.hurd_machine.specs.Sight.{Seen, Part, AttrOf, EmptyOf, BodyOf, EndsOf, OpenOf, OptionsOf, TextOf, UsersOf, TaskOf, Sees, SameView, IsGone, part}
 use Rattle.hurd_machine.specs.Sound.{Sound, Below}
-use Rattle.hurd_machine.specs.Counted.{CanCount, Counted}
 use Rattle.hurd_laws.specs.Step.{reply_of, after, touches}
-use Rattle.hurd_laws.specs.Runs.{TaskCall, run, calls_of, replies_to, worlds_of, SameViews, CanCountIn, TouchesUnseen, Quiet, Unmoved}
+use Rattle.hurd_laws.specs.Runs.{TaskCall, run, calls_of, replies_to, worlds_of, SameViews, TouchesUnseen, Quiet, Unmoved}
 
 -- a part of something whose name was given before
 abbrev pub IsOld : World → Part → Type 0
 IsOld w (AttrOf n) = Below w n
 IsOld w (EmptyOf n) = Below w n
 IsOld w (BodyOf n) = Below w n
+IsOld w (EndsOf n) = Below w n
 IsOld w (OpenOf o) = Below w o
 IsOld w (OptionsOf s) = Below w s
 IsOld w (TextOf s) = Below w s
@@ -47,14 +47,6 @@ OwnFromView =
 -- a sound world stays sound: nothing is left to take out after any call
 abbrev pub StaysSound : Type 0
 StaysSound = (w : World) (t : ℕ) (c : Call) → Sound w → Sound (after w t c)
-
--- where readers and writers are as many as the opens that read and write, they stay so, as long as no count is at its most
-abbrev pub StaysCounted : Type 0
-StaysCounted = (w : World) (t : ℕ) (c : Call) → Sound w → CanCount w → Counted w → Counted (after w t c)
-
--- and so they are after a run
-abbrev pub CountedRun : Type 0
-CountedRun = (w : World) (ms : List TaskCall) → Sound w → CanCountIn w ms → Counted w → Counted (run w ms)
 
 -- of memory the machine knows nothing: no call is refused for want of it
 abbrev pub NeverWantsMemory : Type 0

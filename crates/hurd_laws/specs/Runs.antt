@@ -3,7 +3,6 @@ use Rattle.std.specs.Prelude.{◌≡◌, ℕ, Bool, false, if◌then◌else◌, 
 use Rattle.std.specs.List.{filter}
 use Rattle.hurd_machine.specs.Calls.{Call, Reply}
 use Rattle.hurd_machine.specs.World.{World}
-use Rattle.hurd_machine.specs.Counted.{CanCount}
 use Rattle.hurd_machine.specs.Sight.{Sees, SameView, Part}
 use Rattle.hurd_laws.specs.Step.{reply_of, after, touches}
 
@@ -31,11 +30,6 @@ replies_to S w (m ∷ ms) =
 -- a call touches no part that S sees
 abbrev pub TouchesUnseen : (ℕ → Bool) → World → ℕ → Call → Type 0
 TouchesUnseen S w t c = (p : Part) → touches w t c p → Sees S w p → ⊥
-
--- before each call no count of readers or writers is at its most
-abbrev pub CanCountIn : World → List TaskCall → Type 0
-CanCountIn w [] = Unit {0}
-CanCountIn w (m ∷ ms) = CanCount w × CanCountIn (after w m.task m.call) ms
 
 -- each call of another task touches no part that S sees at that moment
 abbrev pub Quiet : (ℕ → Bool) → World → List TaskCall → Type 0

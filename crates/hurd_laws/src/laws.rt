@@ -1,7 +1,7 @@
 //! The laws.
 ghost use Rattle.hurd_laws.specs.Integrity.{Integrity};
 ghost use Rattle.hurd_laws.specs.Spared.{IntegrityRun};
-ghost use Rattle.hurd_laws.specs.Laws.{ChangesTouched, Confined, ConfinedRun, CountedRun, GoneUnseen, Isolated, IsolatedByView, NeverWantsMemory, OthersUnseen, OwnFromView, QuietUnmoved, SideBySide, StaysCounted, StaysSound, ViewSettled};
+ghost use Rattle.hurd_laws.specs.Laws.{ChangesTouched, Confined, ConfinedRun, GoneUnseen, Isolated, IsolatedByView, NeverWantsMemory, OthersUnseen, OwnFromView, QuietUnmoved, SideBySide, StaysSound, ViewSettled};
 
 /// A step changes touched parts, its caller's own task and new things alone; what of the others doesn't stay is gone.
 pub fn changes_touched()
@@ -26,16 +26,6 @@ pub fn own_from_view()
 /// A sound world stays sound: nothing is left to take out after any call.
 pub fn stays_sound()
     ensures { StaysSound }
-{}
-
-/// Where the readers and writers of each node whose server counts them are as many as its opens that read and write, they stay so, as long as no count is at its most.
-pub fn stays_counted()
-    ensures { StaysCounted }
-{}
-
-/// The same after a run.
-pub fn counted_run()
-    ensures { CountedRun }
 {}
 
 /// No call is refused for want of memory by the written machine.
@@ -86,7 +76,7 @@ pub fn view_settled()
 /// another's task, to which a right of the set's was sent.
 ///
 /// Of a node that is there afterwards each attribute changes by its own reason alone: its kind, owner, group and mode, and the words stored
-/// with it, where the set owns it; its size, links, parent, readers and writers, and what is active on it, each where the set may change that.
+/// with it, where the set owns it; its size, links and parent, how many opens read and write it, and what is active on it, each where the set may change that.
 /// In a directory an entry goes only where the set may take it out, and one comes only where it may enter.
 pub fn integrity()
     ensures { Integrity }

@@ -6,7 +6,7 @@
 mod laws;
 
 pub use laws::{
-    changes_touched, confined, confined_run, counted_run, gone_unseen, integrity, integrity_run,
-    isolated, isolated_by_view, never_wants_memory, others_unseen, own_from_view, quiet_unmoved,
-    side_by_side, stays_counted, stays_sound, view_settled,
+    changes_touched, confined, confined_run, gone_unseen, integrity, integrity_run, isolated,
+    isolated_by_view, never_wants_memory, others_unseen, own_from_view, quiet_unmoved,
+    side_by_side, stays_sound, view_settled,
 };

@@ -13,6 +13,7 @@ use Rattle.hurd_creds.specs.declared.name.Name.{Name}
 use Rattle.hurd_creds.specs.declared.open_flags.OpenFlags.{OpenFlags}
 use Rattle.hurd_words.specs.Printing.{kind_letter, octal_digit, six_octal_digits, spaced, stat_words, text_if}
 use Rattle.hurd_ports.specs.Tables.{Task}
+use Rattle.hurd_ports.specs.declared.table.Ends.{Ends}
 use Rattle.hurd_ports.specs.declared.table.Opened.{Opened}
 use Rattle.hurd_ports.specs.declared.table.PendingStart.{PendingStart}
 use Rattle.hurd_ports.specs.declared.table.Port.{Port}
@@ -34,12 +35,12 @@ use Rattle.hurd_views.specs.declared.rows.ServerRow.{ServerRow}
 use Rattle.hurd_views.specs.declared.rows.TextRow.{TextRow}
 use Rattle.hurd_views.specs.declared.view.View.{View}
 use Rattle.hurd_lessons.specs.Changes.{is_kept, shows}
-use Rattle.hurd_lessons.specs.Differences.{body_change, changed_attrs, changed_body, changed_node, changed_open, changed_opened, changed_server, empty_change, entries_gone, entries_new, modes_or_none, modes_part, noted, parent_at, server_change, signed_names, text_change, users_change}
-use Rattle.hurd_lessons.specs.Lessons.{GoneLineOf, LineOf, Lines, Unless, body_word, emptiness, is_listing, line, moved, note_body, note_empty, note_node, note_open, note_server, note_text, or_changed, parts_of, place_in, said_of}
+use Rattle.hurd_lessons.specs.Differences.{body_change, changed_attrs, changed_body, changed_node, changed_open, changed_opened, changed_server, empty_change, ends_change, entries_gone, entries_new, modes_or_none, modes_part, noted, parent_at, server_change, signed_names, text_change, users_change}
+use Rattle.hurd_lessons.specs.Lessons.{GoneLineOf, LineOf, Lines, Unless, body_word, emptiness, ends_beside, is_listing, line, moved, note_body, note_empty, note_ends, note_node, note_open, note_server, note_text, or_changed, parts_of, place_in, said_of}
 use Rattle.hurd_lessons.specs.Values.{bytes_change, line_from, names_of, number_part, part_if, parted, path_or_none, server_or_none, short_mode, spelled_or_none, turned_part, with_part, words_or_none}
 use Rattle.hurd_places.specs.Places.{node_path, place_of, server_path}
 use Rattle.hurd_places.proofs.FitLaws.{node_path_fits, place_fits, server_path_fits}
-use Rattle.hurd_lessons.specs.Seen.{active_part, attributes_text, body_part, body_text, counts_of, counts_part, counts_text, cursor_text, empty_part, entry_names, held_text, home_part, modes_text, node_places, node_text, opened_text, parent_of, parent_part, passive_text, places_text, program_text, given_text, on_part, opened_by_tasks, port_numbers, program_of, read_text, reads_of, seat_line, seat_lines, seat_text, seen_line, seen_lines, seen_of, server_named, server_parts, spaced_text, start_text, targets_part, task_text, text_part, uid_or_none, uid_text, users_text, words_behind, words_text}
+use Rattle.hurd_lessons.specs.Seen.{active_part, attributes_text, body_part, body_text, cursor_text, empty_part, ends_part, ends_text, entry_names, held_text, home_part, modes_text, node_places, node_text, opened_text, parent_of, parent_part, passive_text, places_text, program_text, given_text, on_part, opened_by_tasks, port_numbers, program_of, read_text, reads_of, seat_line, seat_lines, seat_text, seen_line, seen_lines, seen_of, server_named, server_parts, spaced_text, start_text, targets_part, task_text, text_part, uid_or_none, uid_text, users_text, words_behind, words_text}
 use Rattle.hurd_lessons.specs.Told.{SeenInSentences, TaughtInSentences}
 use Rattle.hurd_lessons.specs.declared.changes.Became.{Became}
 use Rattle.hurd_lessons.specs.declared.changes.Became.TheVariants as became
@@ -180,15 +181,13 @@ server_or_none_fits v (Some s) = server_path_fits v s
 
 attrs_said : (words : List ℕ) (x y : Option Attrs) → (words ≡ []) ⊎ IsClauseText words → (changed_attrs words x y ≡ []) ⊎ IsClauseText (changed_attrs words x y)
 attrs_said words (Some p) (Some q) said =
-    number_said (codes "writers") p.writers q.writers
-    (number_said (codes "readers") p.readers q.readers
-    (number_said (codes "size") p.size q.size
+    number_said (codes "size") p.size q.size
     (number_said (codes "links") p.links q.links
     (turned_said (codes "mode") (short_mode p.mode.0) (short_mode q.mode.0)
     (number_said (codes "group") p.group q.group
     (number_said (codes "owner") p.owner q.owner
     (turned_said (codes "kind") (kind_letter p.kind ∷ []) (kind_letter q.kind ∷ []) said refl (kind_fits p.kind) (kind_fits q.kind)) refl) refl)
-    refl (short_mode_fits p.mode.0) (short_mode_fits q.mode.0)) refl) refl) refl) refl
+    refl (short_mode_fits p.mode.0) (short_mode_fits q.mode.0)) refl) refl
 attrs_said words None None said = said
 attrs_said words (Some p) None said = inr (part_added words (codes "gone") said refl)
 attrs_said words None (Some q) said = inr (part_added words (codes "attributes") said refl)
@@ -205,6 +204,13 @@ node_said a b words (Some x) (Some y) said =
     refl (server_or_none_fits a x.active) (server_or_none_fits b y.active)
 node_said a b words None y said = said
 node_said a b words (Some x) None said = said
+
+ends_said : (words : List ℕ) (x y : Option (Option Ends)) → (words ≡ []) ⊎ IsClauseText words → (ends_change words x y ≡ []) ⊎ IsClauseText (ends_change words x y)
+ends_said words (Some (Some p)) (Some (Some q)) said = number_said (codes "writers") p.writers q.writers (number_said (codes "readers") p.readers q.readers said refl) refl
+ends_said words (Some (Some p)) (Some None) said = inr (part_added words (codes "readers and writers") said refl)
+ends_said words (Some (Some p)) None said = inr (part_added words (codes "readers and writers") said refl)
+ends_said words (Some None) y said = inr (part_added words (codes "readers and writers") said refl)
+ends_said words None y said = inr (part_added words (codes "readers and writers") said refl)
 
 signed_fit : (sign : List ℕ) (es : List EntryRow) → fits sign ≡ true → fits (signed_names sign es) ≡ true
 signed_fit sign [] fit = refl
@@ -326,14 +332,16 @@ users_said words (Some m) None said = said
 parts_said : (a b : View) (x y : Row) (c : Change) → (parts_of a b x y c ≡ []) ⊎ IsClauseText (parts_of a b x y c)
 parts_said a b x y c =
     let one : List ℕ = note_node a b x y c [] in
-    let two : List ℕ = note_body x y c one in
+    let told : List ℕ = note_ends x y c one in
+    let two : List ℕ = note_body x y c told in
     let three : List ℕ = note_empty y c two in
     let four : List ℕ = note_open x y c three in
     let five : List ℕ = note_server a b x y c four in
     let six : List ℕ = note_text x y c five in
     let first : (one ≡ []) ⊎ IsClauseText one = noted_said [] (codes "attributes") _ c.attributes (inl refl) refl (node_said a b [] x.attributes y.attributes (inl refl)) in
+    let ends : (told ≡ []) ⊎ IsClauseText told = noted_said one (codes "readers and writers") _ (ends_beside c.body c.ends) first refl (ends_said one x.ends y.ends first) in
     let second : (two ≡ []) ⊎ IsClauseText two =
-    noted_said one (body_word x y) _ c.body first (body_word_fits x y) (part_said one (Some (body_change x.body y.body)) first (λ t. some_fits (body_change x.body y.body) t (body_change_fits x.body y.body))) in
+    noted_said told (body_word x y) _ c.body ends (body_word_fits x y) (part_said told (Some (body_change x.body y.body)) ends (λ t. some_fits (body_change x.body y.body) t (body_change_fits x.body y.body))) in
     let third : (three ≡ []) ⊎ IsClauseText three =
     noted_said two (codes "emptiness") _ (emptiness c.body c.empty) second refl (part_said two (Some (empty_change y.empty)) second (λ t. some_fits (empty_change y.empty) t (empty_change_fits y.empty))) in
     let fourth : (four ≡ []) ⊎ IsClauseText four = noted_said three (codes "open") _ c.opened third refl (open_said three x.opened y.opened third) in
@@ -430,16 +438,13 @@ active_fits : (v : View) (r : Option NodeRow) (p : List ℕ) → active_part v r
 active_fits v None p is = absurd (cc)
 active_fits v (Some r) p is = named_fits (codes "active ") v r.active p refl is
 
-counts_of_fits : (a : Option Attrs) (p : List ℕ) → counts_of a ≡ Some p → fits p ≡ true
-counts_of_fits None p is = absurd (cc)
-counts_of_fits (Some a) p is =
-    if_part_fits (kind_letter a.kind == 112) (counts_text a) p
-    (both_fit (codes "readers") (spaced a.readers ++ (codes " writers" ++ spaced a.writers)) refl
-    (both_fit (spaced a.readers) (codes " writers" ++ spaced a.writers) (spaced_fits a.readers) (both_fit (codes " writers") (spaced a.writers) refl (spaced_fits a.writers)))) is
-
-counts_fit : (r : Option NodeRow) (p : List ℕ) → counts_part r ≡ Some p → fits p ≡ true
-counts_fit None p is = absurd (cc)
-counts_fit (Some r) p is = counts_of_fits r.attrs p is
+ends_fit : (e : Option (Option Ends)) (p : List ℕ) → ends_part e ≡ Some p → fits p ≡ true
+ends_fit None p is = absurd (cc)
+ends_fit (Some None) p is = absurd (cc)
+ends_fit (Some (Some e)) p is =
+    some_fits (ends_text e) p
+    (both_fit (codes "readers") (spaced e.readers ++ (codes " writers" ++ spaced e.writers)) refl
+    (both_fit (spaced e.readers) (codes " writers" ++ spaced e.writers) (spaced_fits e.readers) (both_fit (codes " writers") (spaced e.writers) refl (spaced_fits e.writers)))) is
 
 parent_name_fits : (v : View) (n : Option Name) (p : List ℕ) → option_map (λ m. codes "parent " ++ node_path v m) n ≡ Some p → fits p ≡ true
 parent_name_fits v None p is = absurd (cc)
@@ -547,7 +552,7 @@ row_said v n r =
     (part_said _ _
     (part_said _ _
     (part_said _ _
-    (part_said _ _ (part_said [] _ (inl refl) (mapped_fits node_text r.attributes node_fits)) (home_fits v r.attributes)) (active_fits v r.attributes)) (counts_fit r.attributes))
+    (part_said _ _ (part_said [] _ (inl refl) (mapped_fits node_text r.attributes node_fits)) (home_fits v r.attributes)) (active_fits v r.attributes)) (ends_fit r.ends))
     (parent_fits v r.attributes))
     (body_part_fits (program_of v n r.attributes) r.body)) (empty_part_fits r.body r.empty))
     (on_fits v n r.opened))

@@ -16,6 +16,7 @@ Turned (Some x) (Some y) b = ((x ≡ y) × (b ≡ became.Same)) ⊎ ((x ≢ y) �
 pub record IsChange (x y : Row) (c : Change) : Type 0 where
   pub attributes : Turned x.attributes y.attributes c.attributes
   pub body : Turned x.body y.body c.body
+  pub ends : Turned x.ends y.ends c.ends
   pub empty : Turned x.empty y.empty c.empty
   pub opened : Turned x.opened y.opened c.opened
   pub server : Turned x.server y.server c.server
@@ -29,8 +30,8 @@ is_same _ = false
 
 -- each part is
 abbrev pub is_kept : Change → Bool
-is_kept c = is_same c.attributes && (is_same c.body && (is_same c.empty && (is_same c.opened && (is_same c.server && (is_same c.text && is_same c.users)))))
+is_kept c = is_same c.attributes && (is_same c.body && (is_same c.ends && (is_same c.empty && (is_same c.opened && (is_same c.server && (is_same c.text && is_same c.users))))))
 
 -- anything is seen
 abbrev pub shows : Row → Bool
-shows r = is_some r.attributes || (is_some r.body || (is_some r.empty || (is_some r.opened || (is_some r.server || (is_some r.text || is_some r.users)))))
+shows r = is_some r.attributes || (is_some r.body || (is_some r.ends || (is_some r.empty || (is_some r.opened || (is_some r.server || (is_some r.text || is_some r.users))))))

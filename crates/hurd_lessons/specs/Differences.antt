@@ -3,6 +3,7 @@ use Rattle.std.specs.Prelude.{ℕ, Bool, false, not, List, [], ◌∷◌, ◌++�
 use Rattle.hurd_creds.specs.Names.{same_name}
 use Rattle.hurd_creds.specs.declared.attrs.Attrs.{Attrs}
 use Rattle.hurd_creds.specs.declared.name.Name.{Name}
+use Rattle.hurd_ports.specs.declared.table.Ends.{Ends}
 use Rattle.hurd_ports.specs.declared.table.Opened.{Opened}
 use Rattle.hurd_sentences.specs.Spelling.{spelled_name}
 use Rattle.hurd_views.specs.declared.rows.BodyRow.{BodyRow}
@@ -28,15 +29,13 @@ noted words word changed became.Lost = parted words ++ (word ++ codes " no longe
 -- what `io_stat` tells of a node, before and after
 abbrev pub changed_attrs : List ℕ → Option Attrs → Option Attrs → List ℕ
 changed_attrs words (Some p) (Some q) =
-    with_part (with_part (with_part (with_part (with_part (with_part (with_part (with_part words
+    with_part (with_part (with_part (with_part (with_part (with_part words
     (kind_part p.kind q.kind))
     (number_part (codes "owner") p.owner q.owner))
     (number_part (codes "group") p.group q.group))
     (mode_part p.mode.0 q.mode.0))
     (number_part (codes "links") p.links q.links))
-    (number_part (codes "size") p.size q.size))
-    (number_part (codes "readers") p.readers q.readers))
-    (number_part (codes "writers") p.writers q.writers)
+    (number_part (codes "size") p.size q.size)
 changed_attrs words None None = words
 changed_attrs words _ None = parted words ++ codes "gone"
 changed_attrs words None _ = parted words ++ codes "attributes"
@@ -55,6 +54,11 @@ changed_node a b words (Some x) (Some y) =
     (turned_part (codes "served by") (server_or_none a x.home) (server_or_none b y.home)))
     (turned_part (codes "active") (server_or_none a x.active) (server_or_none b y.active))
 changed_node a b words _ _ = words
+
+-- how many opens read a node, and how many write it
+abbrev pub ends_change : List ℕ → Option (Option Ends) → Option (Option Ends) → List ℕ
+ends_change words (Some (Some p)) (Some (Some q)) = with_part (with_part words (number_part (codes "readers") p.readers q.readers)) (number_part (codes "writers") p.writers q.writers)
+ends_change words _ _ = parted words ++ codes "readers and writers"
 
 -- entries are the same, by name and node
 abbrev pub same_entry : EntryRow → EntryRow → Bool

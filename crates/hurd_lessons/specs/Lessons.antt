@@ -7,7 +7,7 @@ use Rattle.hurd_views.specs.declared.rows.BodyRow.TheVariants as body
 use Rattle.hurd_views.specs.declared.rows.Row.{Row}
 use Rattle.hurd_views.specs.declared.view.View.{View}
 use Rattle.hurd_lessons.specs.Changes.{IsChange, is_kept, shows}
-use Rattle.hurd_lessons.specs.Differences.{body_change, changed_node, changed_open, empty_change, noted, server_change, text_change, users_change}
+use Rattle.hurd_lessons.specs.Differences.{body_change, changed_node, changed_open, empty_change, ends_change, noted, server_change, text_change, users_change}
 use Rattle.hurd_places.specs.Places.{place_of}
 use Rattle.hurd_lessons.specs.Values.{line_from, names_of, with_part}
 use Rattle.hurd_lessons.specs.declared.changes.Became.{Became}
@@ -28,9 +28,18 @@ emptiness became.New e = became.Same
 emptiness became.Changed e = became.Same
 emptiness _ e = e
 
+-- who comes to see what is in a node, or no longer sees it, is told so by that alone, and not of its readers and writers too
+abbrev pub ends_beside : Became → Became → Became
+ends_beside became.New became.New = became.Same
+ends_beside became.Lost became.Lost = became.Same
+ends_beside _ e = e
+
 -- the parts of a node that changed, each by its word, and by what it was and is where it is seen both times
 abbrev pub note_node : View → View → Row → Row → Change → List ℕ → List ℕ
 note_node a b x y c words = noted words (codes "attributes") (changed_node a b words x.attributes y.attributes) c.attributes
+
+abbrev pub note_ends : Row → Row → Change → List ℕ → List ℕ
+note_ends x y c words = noted words (codes "readers and writers") (ends_change words x.ends y.ends) (ends_beside c.body c.ends)
 
 abbrev pub note_body : Row → Row → Change → List ℕ → List ℕ
 note_body x y c words = noted words (body_word x y) (with_part words (Some (body_change x.body y.body))) c.body
@@ -53,7 +62,7 @@ note_users x y c words = noted words (codes "users") (users_change words x.users
 
 -- all parts that changed under a name
 abbrev pub parts_of : View → View → Row → Row → Change → List ℕ
-parts_of a b x y c = note_users x y c (note_text x y c (note_server a b x y c (note_open x y c (note_empty y c (note_body x y c (note_node a b x y c []))))))
+parts_of a b x y c = note_users x y c (note_text x y c (note_server a b x y c (note_open x y c (note_empty y c (note_body x y c (note_ends x y c (note_node a b x y c [])))))))
 
 -- parts, where there are any
 abbrev pub or_changed : List ℕ → List ℕ

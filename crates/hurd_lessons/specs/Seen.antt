@@ -10,9 +10,10 @@ use Rattle.hurd_creds.specs.Names.{same_name}
 use Rattle.hurd_creds.specs.declared.name.Name.{Name}
 use Rattle.hurd_creds.specs.declared.name.TaskId.{TaskId}
 use Rattle.hurd_creds.specs.declared.open_flags.OpenFlags.{OpenFlags}
-use Rattle.hurd_words.specs.Printing.{kind_letter, spaced, stat_words, text_if}
+use Rattle.hurd_words.specs.Printing.{spaced, stat_words, text_if}
 use Rattle.hurd_sentences.specs.Spelling.{spelled, spelled_name, spelled_words}
 use Rattle.hurd_ports.specs.Tables.{Task}
+use Rattle.hurd_ports.specs.declared.table.Ends.{Ends}
 use Rattle.hurd_ports.specs.declared.table.Opened.{Opened}
 use Rattle.hurd_ports.specs.declared.table.PendingStart.{PendingStart}
 use Rattle.hurd_ports.specs.declared.table.Port.{Port}
@@ -32,7 +33,7 @@ use Rattle.hurd_lessons.specs.Changes.{shows}
 use Rattle.hurd_lessons.specs.declared.seen_parts.Reads.{Reads}
 use Rattle.hurd_lessons.specs.declared.seen_parts.Reads.TheVariants as reads
 use Rattle.hurd_places.specs.Places.{node_path, place_of, server_path}
-use Rattle.hurd_lessons.specs.Values.{line_from, names_of, part_if, parted, spelled_or_none, with_part, words_or_none}
+use Rattle.hurd_lessons.specs.Values.{line_from, names_of, parted, spelled_or_none, with_part, words_or_none}
 
 -- the words of a passive translator, where it has any
 abbrev pub passive_text : List (List ℕ) → List ℕ
@@ -62,18 +63,14 @@ abbrev pub active_part : View → Option NodeRow → Option (List ℕ)
 active_part v None = None
 active_part v (Some r) = server_named (codes "active ") v r.active
 
--- how many opens read and write a pipe
-abbrev pub counts_text : Attrs → List ℕ
-counts_text a = codes "readers" ++ (spaced a.readers ++ (codes " writers" ++ spaced a.writers))
+-- how many opens read a node, and how many write it
+abbrev pub ends_text : Ends → List ℕ
+ends_text e = codes "readers" ++ (spaced e.readers ++ (codes " writers" ++ spaced e.writers))
 
--- the same of a node that may be there: only pipes have it
-abbrev pub counts_of : Option Attrs → Option (List ℕ)
-counts_of None = None
-counts_of (Some a) = part_if (kind_letter a.kind == 112) (counts_text a)
-
-abbrev pub counts_part : Option NodeRow → Option (List ℕ)
-counts_part None = None
-counts_part (Some r) = counts_of r.attrs
+-- the same, where that is seen, and its server is told
+abbrev pub ends_part : Option (Option Ends) → Option (List ℕ)
+ends_part (Some (Some e)) = Some (ends_text e)
+ends_part _ = None
 
 -- the parent of a directory
 abbrev pub parent_of : View → Option Attrs → Option (List ℕ)
@@ -271,7 +268,7 @@ node_parts v n r =
     (option_map node_text r.attributes))
     (home_part v r.attributes))
     (active_part v r.attributes))
-    (counts_part r.attributes))
+    (ends_part r.ends))
     (parent_part v r.attributes))
     (body_part (program_of v n r.attributes) r.body))
     (empty_part r.body r.empty)

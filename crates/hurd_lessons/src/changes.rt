@@ -4,6 +4,7 @@ ghost use Rattle.hurd_views.specs.Views.{no_row};
 ghost use Rattle.hurd_lessons.specs.Changes.{IsChange, Turned, is_kept, is_same, shows};
 
 use hurd_creds::Same;
+use hurd_ports::Ends;
 use hurd_views::Row;
 
 /// What became of a part.
@@ -24,6 +25,7 @@ pub(crate) enum Became {
 pub(crate) struct Change {
     pub(crate) attributes: Became,
     pub(crate) body: Became,
+    pub(crate) ends: Became,
     pub(crate) empty: Became,
     pub(crate) opened: Became,
     pub(crate) server: Became,
@@ -55,6 +57,20 @@ impl Became {
         }
     }
 
+    /// What became of a node's readers and writers.
+    fn of_ends(before: Option<Option<Ends>>, after: Option<Option<Ends>>) -> Became
+        ensures { Turned before after result }
+    {
+        if before == after {
+            return Became::Same;
+        }
+        match (before, after) {
+            (None, _) => Became::New,
+            (_, None) => Became::Lost,
+            (Some(_), Some(_)) => Became::Changed,
+        }
+    }
+
     /// Whether the part is as it was.
     fn is_same(self) -> bool
         ensures { result ≡ is_same self }
@@ -71,6 +87,7 @@ impl Change {
         Change {
             attributes: Became::of(&before.attributes, &after.attributes),
             body: Became::of(&before.body, &after.body),
+            ends: Became::of_ends(before.ends, after.ends),
             empty: Became::of(&before.empty, &after.empty),
             opened: Became::of(&before.opened, &after.opened),
             server: Became::of(&before.server, &after.server),
@@ -85,6 +102,7 @@ impl Change {
     {
         self.attributes.is_same()
             && self.body.is_same()
+            && self.ends.is_same()
             && self.empty.is_same()
             && self.opened.is_same()
             && self.server.is_same()
@@ -99,6 +117,7 @@ pub(crate) fn shows(row: &Row) -> bool
 {
     row.attributes.is_some()
         || row.body.is_some()
+        || row.ends.is_some()
         || row.empty.is_some()
         || row.opened.is_some()
         || row.server.is_some()
@@ -114,6 +133,7 @@ pub(crate) fn no_row() -> Row
         attributes: None,
         empty: None,
         body: None,
+        ends: None,
         opened: None,
         server: None,
         text: None,

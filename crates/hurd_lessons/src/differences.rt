@@ -1,9 +1,9 @@
 //! What became of the parts that are seen under a name, in words.
 ghost use Rattle.std.specs.Prelude.{◌≡◌, ◌++◌, ◌≤◌, ◌+◌, ◌∷◌, [], codes, drop, if◌then◌else◌, IfOk, OnOk, Some};
-ghost use Rattle.hurd_lessons.specs.Differences.{body_change, changed_attrs, changed_body, changed_node, changed_open, changed_opened, changed_server, comes_next, empty_change, entries_gone, entries_new, modes_or_none, modes_part, noted, parent_at, passed, same_entry, server_change, text_change, signed_names, users_change};
+ghost use Rattle.hurd_lessons.specs.Differences.{body_change, changed_attrs, changed_body, changed_node, changed_open, changed_opened, changed_server, comes_next, empty_change, ends_change, entries_gone, entries_new, modes_or_none, modes_part, noted, parent_at, passed, same_entry, server_change, text_change, signed_names, users_change};
 ghost use Rattle.hurd_sentences.specs.Spelling.{spelled_name};
 ghost use Rattle.hurd_lessons.specs.Seen.{places_text, program_text, uid_text};
-ghost use Rattle.hurd_lessons.specs.Lessons.{body_word, emptiness, is_listing, or_changed, parts_of, said_of};
+ghost use Rattle.hurd_lessons.specs.Lessons.{body_word, emptiness, ends_beside, is_listing, or_changed, parts_of, said_of};
 ghost use Rattle.hurd_lessons.specs.Values.{turned_part, with_part};
 
 use crate::changes::{Became, Change, shows};
@@ -13,13 +13,16 @@ use crate::values::{
     part, push_bytes_change,
 };
 use hurd_creds::{Attrs, NodeName};
-use hurd_ports::Opened;
+use hurd_ports::{Ends, Opened};
 use hurd_sentences::push_name;
 use hurd_views::{BodyRow, EntryRow, NodeRow, OpenRow, Row, ServerRow, TextRow, View};
 use std::alloc::{AllocError, Global};
 
 /// What stands behind a part that is no longer seen.
 const LOST: &[u8] = b" no longer seen";
+
+/// What the ends of a node are called.
+const ENDS: &[u8] = b"readers and writers";
 
 /// Adds a part by its word that is no longer seen.
 fn note(words: &mut Vec<u8>, word: &[u8], ending: &[u8]) -> Result<(), AllocError>
@@ -54,9 +57,7 @@ fn add_stat(alloc: Global, words: &mut Vec<u8>, old: &Attrs, new: &Attrs) -> Res
         u128::from(old.links),
         u128::from(new.links),
     )?;
-    add_number(words, b"size", u128::from(old.size), u128::from(new.size))?;
-    add_number(words, b"readers", old.readers, new.readers)?;
-    add_number(words, b"writers", old.writers, new.writers)
+    add_number(words, b"size", u128::from(old.size), u128::from(new.size))
 }
 
 /// The same where it may be there.
@@ -126,6 +127,21 @@ fn add_node(
     add_server_path(
         alloc, words, b"active", before, old.active, after, new.active,
     )
+}
+
+/// Adds how many opens read a node, and how many write it, before and after.
+fn add_ends(
+    words: &mut Vec<u8>,
+    old: Option<Option<Ends>>,
+    new: Option<Option<Ends>>,
+) -> Result<(), AllocError>
+    ensures { OnOk result (words.new.items ≡ ends_change words.old.items old new) }
+{
+    let (Some(Some(old)), Some(Some(new))) = (old, new) else {
+        return add_part(words, ENDS);
+    };
+    add_number(words, b"readers", old.readers, new.readers)?;
+    add_number(words, b"writers", old.writers, new.writers)
 }
 
 /// Whether entries are the same, by name and node.
@@ -513,6 +529,16 @@ fn emptiness(body: Became, empty: Became) -> Became
     }
 }
 
+/// What is said of a node's readers and writers: nothing where what is in it says it.
+fn ends_beside(body: Became, ends: Became) -> Became
+    ensures { result ≡ ends_beside body ends }
+{
+    match (body, ends) {
+        (Became::New, Became::New) | (Became::Lost, Became::Lost) => Became::Same,
+        _ => ends,
+    }
+}
+
 /// Adds the part of a node's attributes, unless they are as they were.
 fn note_node(
     alloc: Global,
@@ -533,6 +559,23 @@ fn note_node(
             (Some(old), Some(new)) => add_node(alloc, words, before, after, old, new),
             _ => Ok(()),
         },
+    }
+}
+
+/// Adds the part of a node's readers and writers, unless they are as they were.
+fn note_ends(
+    words: &mut Vec<u8>,
+    old: Option<Option<Ends>>,
+    new: Option<Option<Ends>>,
+    became: Became,
+) -> Result<(), AllocError>
+    ensures { OnOk result (words.new.items ≡ noted words.old.items (codes "readers and writers") (ends_change words.old.items old new) became) }
+{
+    match became {
+        Became::Same => Ok(()),
+        Became::New => add_part(words, ENDS),
+        Became::Lost => note(words, ENDS, LOST),
+        Became::Changed => add_ends(words, old, new),
     }
 }
 
@@ -657,6 +700,12 @@ fn parts(
         &old.attributes,
         &new.attributes,
         change.attributes,
+    )?;
+    note_ends(
+        &mut words,
+        old.ends,
+        new.ends,
+        ends_beside(change.body, change.ends),
     )?;
     note_body(&mut words, old, new, change.body)?;
     note_empty(&mut words, new.empty, emptiness(change.body, change.empty))?;

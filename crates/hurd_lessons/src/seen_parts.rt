@@ -2,16 +2,17 @@
 ghost use Rattle.std.specs.Prelude.{◌≡◌, ◌∷◌, ◌++◌, bytes_eq, codes, IfOk, OnOk, Some};
 ghost use Rattle.std.specs.Option.{option_map};
 ghost use Rattle.hurd_places.specs.Places.{node_path};
-ghost use Rattle.hurd_lessons.specs.Seen.{active_part, program_text, spaced_text, text_part, words_behind, body_part, body_text, bytes_text, counts_of, counts_part, counts_text, cursor_text, empty_part, empty_text, entry_names, held_text, given_text, home_part, listing_text, modes_text, node_places, node_parts, node_text, on_part, opened_by_tasks, parent_of, parent_part, passive_text, places_text, program_in, program_of, read_text, reads_of, seen_of, server_named, server_parts, targets_part, uid_text, users_text};
+ghost use Rattle.hurd_lessons.specs.Seen.{active_part, program_text, spaced_text, text_part, words_behind, body_part, body_text, bytes_text, cursor_text, empty_part, empty_text, ends_part, ends_text, entry_names, held_text, given_text, home_part, listing_text, modes_text, node_places, node_parts, node_text, on_part, opened_by_tasks, parent_part, passive_text, places_text, program_in, program_of, read_text, reads_of, seen_of, server_named, server_parts, targets_part, uid_text, users_text};
 ghost use Rattle.hurd_lessons.specs.Values.{with_part, words_or_none};
 
 use crate::opens::opened_by_tasks;
 use crate::values::{add_part, part, push_all_words, push_bytes};
-use hurd_creds::{Attrs, Bytes, Ids, Name, NodeName, OpenFlags, ServerName};
+use hurd_creds::{Bytes, Ids, Name, NodeName, OpenFlags, ServerName};
 use hurd_places::{node_path, server_path};
+use hurd_ports::Ends;
 use hurd_sentences::{push_name, push_word, push_words};
 use hurd_views::{BodyRow, EntryRow, NodeRow, OpenRow, Row, ServerRow, TextRow, View};
-use hurd_words::printing::{kind_letter, push_if, push_long_number, push_number, push_stat};
+use hurd_words::printing::{push_if, push_long_number, push_number, push_stat};
 use itoa::Buffer;
 use std::alloc::{AllocError, Global};
 
@@ -113,28 +114,25 @@ fn add_active(
     }
 }
 
-/// Adds how many opens read and write a pipe.
-fn push_counts(words: &mut Vec<u8>, attrs: &Attrs) -> Result<(), AllocError>
-    ensures { OnOk result (words.new.items ≡ words.old.items ++ counts_text attrs.now) }
+/// Adds how many opens read a node, and how many write it.
+fn push_ends(words: &mut Vec<u8>, ends: Ends) -> Result<(), AllocError>
+    ensures { OnOk result (words.new.items ≡ words.old.items ++ ends_text ends) }
 {
     words.extend_from_slice(b"readers")?;
-    push_long_number(words, attrs.readers)?;
+    push_long_number(words, ends.readers)?;
     words.extend_from_slice(b" writers")?;
-    push_long_number(words, attrs.writers)
+    push_long_number(words, ends.writers)
 }
 
-/// Adds the part of that.
-fn add_counts(words: &mut Vec<u8>, attrs: &Option<Attrs>) -> Result<(), AllocError>
-    ensures { OnOk result (words.new.items ≡ with_part words.old.items (counts_of attrs.now)) }
+/// Adds the part of that, where it is seen.
+fn add_ends(words: &mut Vec<u8>, ends: Option<Option<Ends>>) -> Result<(), AllocError>
+    ensures { OnOk result (words.new.items ≡ with_part words.old.items (ends_part ends)) }
 {
-    let Some(attrs) = attrs else {
+    let Some(Some(ends)) = ends else {
         return Ok(());
     };
-    if kind_letter(attrs.kind) != b'p' {
-        return Ok(());
-    }
     part(words)?;
-    push_counts(words, attrs)
+    push_ends(words, ends)
 }
 
 /// Adds the part of a directory's parent.
@@ -142,11 +140,14 @@ fn add_parent(
     alloc: Global,
     words: &mut Vec<u8>,
     view: &View,
-    attrs: &Option<Attrs>,
+    row: &Option<NodeRow>,
 ) -> Result<(), AllocError>
-    ensures { OnOk result (words.new.items ≡ with_part words.old.items (parent_of view.now attrs.now)) }
+    ensures { OnOk result (words.new.items ≡ with_part words.old.items (parent_part view.now row.now)) }
 {
-    let Some(attrs) = attrs else {
+    let Some(row) = row else {
+        return Ok(());
+    };
+    let Some(attrs) = &row.attrs else {
         return Ok(());
     };
     let Some(parent) = attrs.parent else {
@@ -156,22 +157,6 @@ fn add_parent(
     part(words)?;
     words.extend_from_slice(b"parent ")?;
     words.extend_from_slice(path.as_slice())
-}
-
-/// Adds the parts of a node beside its attributes: how many read and write it, and its parent.
-fn add_ties(
-    alloc: Global,
-    words: &mut Vec<u8>,
-    view: &View,
-    row: &Option<NodeRow>,
-) -> Result<(), AllocError>
-    ensures { OnOk result (words.new.items ≡ with_part (with_part words.old.items (counts_part row.now)) (parent_part view.now row.now)) }
-{
-    let Some(row) = row else {
-        return Ok(());
-    };
-    add_counts(words, &row.attrs)?;
-    add_parent(alloc, words, view, &row.attrs)
 }
 
 /// Adds the names of entries, each behind a space.
@@ -640,7 +625,8 @@ fn node_of(alloc: Global, view: &View, name: Name, row: &Row) -> Result<Vec<u8>,
     add_node(&mut words, &row.attributes)?;
     add_home(alloc, &mut words, view, &row.attributes)?;
     add_active(alloc, &mut words, view, &row.attributes)?;
-    add_ties(alloc, &mut words, view, &row.attributes)?;
+    add_ends(&mut words, row.ends)?;
+    add_parent(alloc, &mut words, view, &row.attributes)?;
     add_body(
         &mut words,
         program_of(view, name, &row.attributes),

@@ -1,7 +1,7 @@
 -- Crossing the root of a server, by what the server is.
 use Rattle.std.proofs.Common.{◌≡◌, ◌∙◌, ℕ, Bool, true, false, not, ◌&&◌, is_some, if◌then◌else◌, List, Option, Some, None, option_map, sym, ap, ap₂}
 use Rattle.std.specs.Prelude.{Result, Ok, slice_get}
-use Rattle.hurd_machine.proofs.Common.{Attrs, Crossing, EDIED, Errno, Firm, Header, IoRight, Name, ServerInfo, World, asks, first, header_at, info_at, on, targets_at, targets_in, words_at}
+use Rattle.hurd_machine.proofs.Common.{Attrs, Crossing, EDIED, Errno, Firm, Header, Name, ServerInfo, World, asks, first, header_at, info_at, on, targets_at, targets_in, words_at}
 use Rattle.hurd_creds.specs.Bits.{NOLINK}
 use Rattle.hurd_trans_iface.specs.Meaning.{root_of}
 use Rattle.hurd_trans_iface.specs.declared.root.Root.{Root}
@@ -9,7 +9,7 @@ use Rattle.hurd_trans_iface.specs.declared.root.Crossing.TheVariants.{Link}
 use Rattle.hurd_nodes.proofs.PartLaws.{mapped-some}
 use Rattle.hurd_core.specs.PortNode.{header_with}
 use Rattle.hurd_lookup.specs.declared.request.Request.{Request}
-use Rattle.hurd_lookup.specs.Lookup.{Place, cross, crossing, enter, follow, hold_on, is_last}
+use Rattle.hurd_lookup.specs.Lookup.{Authority, Place, cross, crossing, enter, follow, hold_on, is_last}
 use Rattle.hurd_lookup.specs.Ends.{text_at, text_by}
 
 -- a node whose attributes are told is there
@@ -22,7 +22,7 @@ module _ (w : World) (root : Name) (h : Header) (there : header_at w root ≡ So
   pub info-of : (i : ServerInfo) × (info_at w root ≡ Some i) × (root_of i.kind i.text ≡ x)
   info-of = mapped-some _ (info_at w root) x (sym is)
 
-  module _ (q : IoRight) (r : Request) (d : Name) (names : List (List ℕ)) where
+  module _ (q : Authority) (r : Request) (d : Name) (names : List (List ℕ)) where
     abbrev crossed : Option Header → Option ServerInfo → Result Place Errno
     crossed o s = first (on EDIED o (λ g. on EDIED s (λ i. Ok i))) (λ i. crossing w (root_of i.kind i.text).crossing q r d root i names)
 

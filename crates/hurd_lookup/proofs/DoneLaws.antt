@@ -33,7 +33,7 @@ there (Err e) h = absurd (cc)
 
 module _ (w : World) (t : ℕ) (flags : OpenFlags) where
   abbrev told : Outcome × Task → Plan
-  told l = record { reply = Found (lookup_told l.1 l.0); changes = lookup_changes w t l.1 (open_modes flags) l.0 }
+  told l = record { reply = Found (lookup_told l.1 l.0); changes = lookup_changes t l.1 (open_modes flags) l.0 }
 
   abbrev asked : Result Outcome Errno → Plan
   asked f = finding w t flags f
@@ -72,7 +72,7 @@ module _ (w : World) (t : ℕ) (flags : OpenFlags) where
   -- a node that is there is opened
   module _ (e : NewPort) (ok : IsOk (ending_asks w t (Opens e))) where
     abbrev opens : Task → List Change
-    opens x = opening w t x e.node e.ids e.parents (open_modes flags)
+    opens x = opening t x e.node e.ids e.parents (open_modes flags)
 
     pub opened : (k : Result ℕ Errno) (y : World) → Does w (room_asks w t 1) opens (λ x. x.next) k y → Planned w (asked (Ok (Opens e))) (λ n. Found (found.Done n)) k y
     opened = let x = there (ending_asks w t (Opens e)) ok in does_planned w (room_asks w t 1) opens (λ x. x.next) found.Done (asked (Ok (Opens e))) x.0 x.1 (plan-is (Opens e) x.0 x.1)
@@ -136,7 +136,7 @@ module _ (w : World) (t : ℕ) (flags : OpenFlags) where
       p = Retries kind name (Some e)
 
       abbrev bare_opens : Task → List Change
-      bare_opens x = opening w t x e.node e.ids e.parents no_modes
+      bare_opens x = opening t x e.node e.ids e.parents no_modes
 
       abbrev tell : ℕ → Lookup
       tell k = found.Retry kind name (Some k)

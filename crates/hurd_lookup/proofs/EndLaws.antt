@@ -1,11 +1,11 @@
 -- The end of a lookup: what it asks there is the same in both worlds, what its answer shows, and that no refusal is want of memory.
 use Rattle.std.proofs.Common.{◌≡◌, ℕ, Bool, true, not, ◌&&◌, List, Some, None, refl, ap}
 use Rattle.std.specs.Prelude.{Ok}
-use Rattle.hurd_machine.proofs.Common.{BodyOf, File, Header, IdSets, IoRight, Name, OpenFlags, Seen, Sees, Taken, WRITE, World, asks, header_at, home_at, info_at, is_dir, is_removed, makes_at, only_reads}
+use Rattle.hurd_machine.proofs.Common.{BodyOf, File, Header, IdSets, Name, OpenFlags, Seen, Sees, Taken, WRITE, World, asks, header_at, home_at, info_at, is_dir, is_removed, makes_at, only_reads}
 use Rattle.hurd_machine.proofs.Asks.{makes_plain}
 use Rattle.hurd_core.specs.Core.{NewNodeAt}
 use Rattle.hurd_lookup.specs.declared.request.Request.{Request}
-use Rattle.hurd_lookup.specs.Lookup.{NewPort, Place, AtNode, AtName, Elsewhere, Waits, Outcome, Opens, Makes, Retries, Starts, may_open, end_asks}
+use Rattle.hurd_lookup.specs.Lookup.{Authority, NewPort, Place, AtNode, AtName, Elsewhere, Waits, Outcome, Opens, Makes, Retries, Starts, may_open, end_asks}
 use Rattle.hurd_lookup.proofs.FaceLaws.{only_face}
 use Rattle.hurd_lookup.proofs.AlikeLaws.{Alike, ok_alike, on_alike, given_alike, first_alike}
 use Rattle.hurd_lookup.proofs.WalkLaws.{Ground, WaysOn, PortOn, PlaceOn}
@@ -52,8 +52,8 @@ pub record OutcomeShown (At Entries : Name → Type 0) (T : IdSets → Type 0) (
 abbrev pub OutcomeSeen : (ℕ → Bool) → World → OpenFlags → Outcome → Type 0
 OutcomeSeen S v flags o = OutcomeShown (Seen S v) (λ d. Sees S v (BodyOf d)) (Taken S v) v flags o
 
--- what is asked at the end, by a right
-module _ {v w : World} {At Near Entries : Name → Type 0} {T : IdSets → Type 0} (g : Ground v w At Near Entries T) (q : IoRight) (taken : T q.ids) (ways : WaysOn At q.parents) (r : Request) where
+-- what is asked at the end
+module _ {v w : World} {At Near Entries : Name → Type 0} {T : IdSets → Type 0} (g : Ground v w At Near Entries T) (q : Authority) (taken : T q.ids) (ways : WaysOn At q.ways) (r : Request) where
   pub end_alike : (place : Place) → PlaceOn At Entries T place → Alike (OutcomeShown At Entries T v r.flags) (end_asks v q r place) (end_asks w q r place)
   end_alike (AtNode n parents) at =
       let near = g.near n at.0 in

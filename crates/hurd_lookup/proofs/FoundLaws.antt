@@ -1,19 +1,18 @@
 -- The laws of a call that makes of what it found a port, a file or a retry, or is to start it.
-use Rattle.std.proofs.Common.{◌≡◌, ℕ, Bool, true, Some, None, refl, List, ap}
+use Rattle.std.proofs.Common.{◌≡◌, ℕ, Bool, true, Some, None, refl}
 use Rattle.std.specs.Prelude.{Result, Ok}
-use Rattle.hurd_machine.proofs.Common.{BodyOf, Change, ESRCH, Errno, IdSets, Name, OpenFlags, Plan, Seen, Sees, Taken, Task, World, on, open_modes, task_at}
+use Rattle.hurd_machine.proofs.Common.{BodyOf, ESRCH, Errno, IdSets, Name, OpenFlags, Seen, Sees, Taken, Task, World, on, task_at}
 use Rattle.hurd_machine.specs.declared.call.Reply.TheVariants.{Found}
 use Rattle.hurd_machine.proofs.Views.{Agree, Agree-refl}
 use Rattle.hurd_machine.proofs.Asks.{answered_same, answered_plain, done_plain}
-use Rattle.hurd_machine.proofs.Opens.{opening_same}
 use Rattle.hurd_machine.proofs.Piece.{stands}
 use Rattle.hurd_machine.proofs.CallLaws.{CallLaws, answered_piece}
 use Rattle.hurd_core.specs.Core.{room_asks}
-use Rattle.hurd_lookup.specs.Lookup.{Outcome, Opens, Makes, Retries, Starts, ending_asks, whole_asks, lookup_told, finding, finding_parts, lookup_changes, no_modes}
+use Rattle.hurd_lookup.specs.Lookup.{Outcome, Opens, Makes, Retries, Starts, ending_asks, whole_asks, lookup_told, finding, finding_parts}
 use Rattle.hurd_lookup.proofs.AlikeLaws.{Alike, ok_alike, on_alike, given_alike, first_alike}
 use Rattle.hurd_lookup.proofs.WalkLaws.{Ground, no_ids_taken, seen_ground, taken_powers}
 use Rattle.hurd_lookup.proofs.BeginLaws.{Begins, held_begins, seen_begins}
-use Rattle.hurd_lookup.proofs.EndLaws.{OutcomeShown, OutcomeSeen}
+use Rattle.hurd_lookup.proofs.EndLaws.{OutcomeShown}
 use Rattle.hurd_lookup.proofs.HeldLaws.{held_ground}
 use Rattle.hurd_lookup.proofs.NestedLaws.{Lends, held_lends, seen_lends}
 use Rattle.hurd_lookup.proofs.OutcomeLaws.{outcome_whole}
@@ -41,14 +40,6 @@ module _ (v w : World) (t : ℕ) (same : task_at w t ≡ task_at v t) where
   ending_alike (Retries kind name None) = there_alike
   ending_alike (Starts s) = there_alike
 
--- what was found changes the same in worlds that agree
-changes_same : {S : ℕ → Bool} {v w : World} → Agree S v w → (t : ℕ) (x : Task) (flags : OpenFlags) (o : Outcome) → OutcomeSeen S v flags o → lookup_changes w t x (open_modes flags) o ≡ lookup_changes v t x (open_modes flags) o
-changes_same a t x flags (Opens e) shown = opening_same a t x e.node e.ids e.parents (open_modes flags) shown.on.node
-changes_same a t x flags (Makes s f ids ways) shown = refl
-changes_same a t x flags (Retries kind name None) shown = refl
-changes_same a t x flags (Retries kind name (Some e)) shown = opening_same a t x e.node e.ids e.parents no_modes shown.on.node
-changes_same a t x flags (Starts s) shown = refl
-
 module _ (t : ℕ) (flags : OpenFlags) (found : World → Result Outcome Errno) (l : FoundLaws t flags found) where
   abbrev asked : World → Result (Outcome × Task) Errno
   asked w = whole_asks w t (found w)
@@ -75,8 +66,6 @@ module _ (t : ℕ) (flags : OpenFlags) (found : World → Result Outcome Errno) 
   finding_laws = record {
     piece = λ w s. answered_piece s (asked w) _ _ (λ got is.
         outcome_whole w t got.1 ((alone (λ k. true) w refl).has got is).is_task flags s got.0 ((asked_alike (held_ground w (stands s)) (held_begins w s.coherent t) (held_lends w (stands s) t)).has got is).shown.on (λ S ours. ((alone S w ours).has got is).shown));
-    same = λ S v w c d a ours. answered_same _ _ _ _ (seen_alike S v w a ours).same (λ got is.
-        let shown = ((alone S v ours).has got is).shown in
-        ap (λ (cs : List Change). let P : Plan = record { reply = Found (lookup_told got.1 got.0); changes = cs } in P) (changes_same a t got.1 flags got.0 shown));
+    same = λ S v w c d a ours. answered_same _ _ _ _ (seen_alike S v w a ours).same (λ got is. refl);
     plain = λ w. answered_plain (asked w) _ (alone (λ k. true) w refl).plain (λ got is. done_plain (Found (lookup_told got.1 got.0)) refl);
   }

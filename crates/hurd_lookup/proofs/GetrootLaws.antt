@@ -7,15 +7,17 @@ use Rattle.hurd_lookup.specs.declared.request.Request.{Request}
 use Rattle.hurd_lookup.specs.Lookup.{Outcome}
 use Rattle.hurd_lookup.specs.Getroot.{Entrance, root_request, entrance_asks, getroot_asks, plan_getroot, touches_getroot}
 use Rattle.hurd_lookup.proofs.AlikeLaws.{Alike, ok_alike, on_alike, given_alike, first_alike}
-use Rattle.hurd_lookup.proofs.WalkLaws.{Ground, cross_alike}
-use Rattle.hurd_lookup.proofs.BeginLaws.{Begins, RightOn}
+use Rattle.hurd_lookup.proofs.WalkLaws.{Ground, WaysOn, cross_alike}
+use Rattle.hurd_lookup.proofs.BeginLaws.{Begins}
 use Rattle.hurd_lookup.proofs.EndLaws.{end_alike}
 use Rattle.hurd_lookup.proofs.FoundLaws.{FoundLaws, finding_laws}
 
 module _ (t c dir : ℕ) where
   -- where the server is entered, by the ids of the task
   record EntranceOn (At Near : Name → Type 0) (T : IdSets → Type 0) (e : Entrance) : Type 0 where
-    right : RightOn At T e.right
+    start : At e.start
+    ids : T e.authority.ids
+    ways : WaysOn At e.authority.ways
     root : Near e.root
 
   entrance_alike : {v w : World} {At Near Entries : Name → Type 0} {T : IdSets → Type 0} → Ground v w At Near Entries T → Begins t v w At Near T → Alike (EntranceOn At Near T) (entrance_asks v t c dir) (entrance_asks w t c dir)
@@ -23,7 +25,7 @@ module _ (t c dir : ℕ) where
       first_alike _ _ _ _ _ _ (b.control c) (λ s controls server. first_alike _ _ _ _ _ _ (b.port dir) (λ q is on.
       on_alike _ _ _ _ _ _ refl server.same (λ i there. on_alike _ _ _ _ _ _ refl (g.header q.node (g.near q.node on.node)) (λ h eh.
       given_alike _ _ _ _ _ _ refl refl (λ k. on_alike _ _ _ _ _ _ refl b.task (λ x ex.
-      ok_alike _ _ (record { right = record { node = on.node; ids = b.ids x ex; ways = on.ways }; root = server.root i there })))))))
+      ok_alike _ _ (record { start = on.node; ids = b.ids x ex; ways = on.ways; root = server.root i there })))))))
 
   module _ (flags : OpenFlags) where
     abbrev r : Request
@@ -35,7 +37,7 @@ module _ (t c dir : ℕ) where
     pub found_alike : FoundLaws t flags found
     found_alike v w At Near Entries T g b P k =
         first_alike _ _ _ _ _ _ (entrance_alike g b) (λ e is s.
-        first_alike _ _ _ _ _ _ (cross_alike g e.right s.right.ids s.right.ways r e.right.node e.root s.right.node s.root []) (λ place crossed at. end_alike g e.right s.right.ids s.right.ways r place at))
+        first_alike _ _ _ _ _ _ (cross_alike g e.authority s.ids s.ways r e.start e.root s.start s.root []) (λ place crossed at. end_alike g e.authority s.ids s.ways r place at))
 
     pub getroot_laws : CallLaws t (λ w. plan_getroot w t c dir flags) (λ w. touches_getroot w t c dir flags)
     getroot_laws = finding_laws t flags found found_alike

@@ -9,11 +9,11 @@ use Rattle.hurd_lookup.specs.declared.resolve.Looked.TheVariants.{Ends, Goes}
 use Rattle.hurd_lookup.specs.Path.{names_in, is_short}
 use Rattle.hurd_lookup.specs.Lookup.{Place, walk}
 use Rattle.hurd_lookup.specs.Legs.{Leads}
-use Rattle.hurd_lookup.specs.Resolve.{Leg, from_top, landed, leg_asks, leg_request, legs, most_looks, path_end, right_of}
+use Rattle.hurd_lookup.specs.Resolve.{Leg, from_top, landed, leg_asks, leg_by, leg_request, legs, most_looks, path_end}
 
 module _ (w : World) (ids : IdSets) (l : Leg) (h : Header) (there : header_at w l.node ≡ Some h) (short : true ≡ is_short l.path) (r : Request) (plain : r ≡ leg_request l.path) where
   abbrev walked : Request → Result Place Errno
-  walked q = walk w (right_of ids l) q l.node (names_in l.path)
+  walked q = walk w (leg_by ids l) q l.node (names_in l.path)
 
   abbrev then_landed : Request → (Leg → Result Landing Errno) → Result Landing Errno
   then_landed q onward = first (walked q) (landed w q onward)

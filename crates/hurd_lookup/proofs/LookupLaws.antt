@@ -5,7 +5,7 @@ use Rattle.hurd_machine.proofs.Common.{Errno, IdSets, Mode, Name, OpenFlags, Wor
 use Rattle.hurd_machine.proofs.CallLaws.{CallLaws}
 use Rattle.hurd_lookup.specs.declared.request.Request.{Request}
 use Rattle.hurd_lookup.specs.Path.{names_in}
-use Rattle.hurd_lookup.specs.Lookup.{Outcome, Opens, Makes, Retries, Starts, request, found_asks}
+use Rattle.hurd_lookup.specs.Lookup.{Outcome, Opens, Makes, Retries, Starts, by_right, request, found_asks}
 use Rattle.hurd_lookup.specs.Seeking.{plan_lookup, seeking_asks, sooner, start_at, touches_lookup}
 use Rattle.hurd_lookup.proofs.AlikeLaws.{Alike, ok_alike, first_alike, on_alike, given_alike}
 use Rattle.hurd_lookup.proofs.BeginLaws.{Begins}
@@ -42,7 +42,7 @@ module _ (t p : ℕ) (path : List ℕ) (flags : OpenFlags) (mode : Mode) where
       first_alike (OutcomeShown At Entries T v flags) _ (found_asks v t p path r) (found_asks w t p path r) _ _
       (first_alike _ _ _ _ _ _ (b.port p) (λ q is on.
       on_alike _ _ _ _ _ _ refl (g.header q.node (g.near q.node on.node)) (λ h eh. given_alike _ _ _ _ _ _ refl refl (λ short.
-      first_alike _ _ _ _ _ _ (walk_alike g q on.ids on.ways r q.node (names_in path) on.node) (λ place walked at. end_alike g q on.ids on.ways r place at)))))
+      first_alike _ _ _ _ _ _ (walk_alike g (by_right q) on.ids on.ways r q.node (names_in path) on.node) (λ place walked at. end_alike g (by_right q) on.ids on.ways r place at)))))
       (λ o is shown. sooner_alike t flags g b k o shown)
 
   pub lookup_laws : CallLaws t (λ w. plan_lookup w t p path flags mode) (λ w. touches_lookup w t p path flags mode)

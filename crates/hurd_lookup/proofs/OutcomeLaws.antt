@@ -2,7 +2,7 @@
 use Rattle.std.proofs.Common.{◌≡◌, ℕ, ◌+◌, Bool, true, false, not, ◌&&◌, ◌||◌, List, Some, None, refl, sym, ◌∙◌, ap, inl, inr, arith}
 use Rattle.std.proofs.lemmas.Nat.{and_assoc}
 use Rattle.std.proofs.lemmas.Bool.{or_cases, and_parts}
-use Rattle.hurd_machine.proofs.Common.{Allowed, AttrOf, Below, CanBeWritten, Change, Exec, File, Header, IdSets, IsAmong, Name, Node, OpenFlags, Part, READ, Read, Seen, SeesBody, Sound, Task, ToPut, ToRead, WRITE, World, Write, apply_all, asks, bare, counts_at, counts_by, fresh, gives_text, header_at, info_at, info_in, is_dir, leads_on, may, new_file, new_right, new_site, only_reads, open_modes, opening, porting, put, server_at, shape_at, shape_by, task_at, tells, tree_by, ways_of}
+use Rattle.hurd_machine.proofs.Common.{Allowed, Below, CanBeWritten, Change, Exec, File, Header, IdSets, IsAmong, Name, Node, OpenFlags, Part, READ, Read, Seen, SeesBody, Sound, Task, ToPut, ToRead, WRITE, World, Write, apply_all, asks, bare, counts_at, fresh, gives_text, header_at, info_at, info_in, is_dir, leads_on, may, new_file, new_site, only_reads, open_modes, opening, put, server_at, shape_at, shape_by, task_at, tells, tree_by, ways_of}
 use Rattle.hurd_nodes.proofs.Sites.{home-apart}
 use Rattle.hurd_creds.specs.Bits.{EXEC}
 use Rattle.hurd_trans_iface.proofs.Goods.{good}
@@ -17,7 +17,7 @@ use Rattle.hurd_machine.proofs.Links.{leads_unless, file_hangs}
 use Rattle.hurd_machine.proofs.Confine.{NewTo, seen_old}
 use Rattle.hurd_machine.proofs.Permits.{later_new, opens_may}
 use Rattle.hurd_machine.proofs.Opens as fragments
-use Rattle.hurd_machine.proofs.Opens.{own_task, fresh_new, fresh_next, opens_piece, opening_whole}
+use Rattle.hurd_machine.proofs.Opens.{own_task, fresh_new, fresh_next, opens_piece}
 use Rattle.hurd_machine.proofs.Makes.{may_make, entered, entered_home, entered_header, entered_task, entered_below, entered_whole}
 use Rattle.hurd_machine.proofs.Pending.{pends_whole}
 use Rattle.hurd_core.specs.Core.{asked_node}
@@ -25,9 +25,7 @@ use Rattle.hurd_lookup.specs.Lookup.{NewPort, Outcome, Opens, Makes, Retries, St
 use Rattle.hurd_lookup.proofs.WalkLaws.{PortSeen}
 use Rattle.hurd_lookup.proofs.HeldLaws.{PortHeld, OutcomeHeld}
 use Rattle.hurd_lookup.proofs.EndLaws.{MakeLeads, OutcomeSeen}
-use Rattle.hurd_machine.proofs.Counting.{AllCalm, port_calm, tree_counts}
-use Rattle.hurd_machine.proofs.OpenCounts.{opening_counted}
-use Rattle.hurd_machine.proofs.Piece.{Whole, stands, resting, whole_none, whole_then}
+use Rattle.hurd_machine.proofs.Piece.{Whole, stands, whole_none, whole_then}
 
 -- an open keeps no flag that was not asked for
 
@@ -73,7 +71,7 @@ module _ (w : World) (t : ℕ) (x : Task) (is : task_at w t ≡ Some x) (flags :
   n = fresh t x
 
   abbrev changes : Outcome → List Change
-  changes o = lookup_changes w t x modes o
+  changes o = lookup_changes t x modes o
 
   -- the parts that it may write
   abbrev Writes : Outcome → Part → Type 0
@@ -86,15 +84,15 @@ module _ (w : World) (t : ℕ) (x : Task) (is : task_at w t ≡ Some x) (flags :
   -- a port that is made
   port_whole : {T : Part → Type 0} → Sound w → (e : NewPort) (modes : OpenFlags) → ((p : Part) → OnOpen w e.node p → T p)
       → (asks modes WRITE ≡ true → CanBeWritten w e.node) → PortHeld w e → ((S : ℕ → Bool) → S t ≡ true → PortSeen S w e)
-      → ((S : ℕ → Bool) → S t ≡ true → tells (counts_at w e.node) modes ≡ true → (h : Header) → header_at w e.node ≡ Some h → SeesBody S w e.node h) → Whole t (Full w t T) w w (opening w t x e.node e.ids e.parents modes)
-  port_whole {T} s e modes on writes held seen reads =
-      opening_whole x e.node e.ids e.parents modes (stands s)
-      (opens_piece w t x is e.node e.ids e.parents modes (stands s) (own_task w t T) (inr (inr (fresh_new w t x is))) (λ p here. inl (on p (inl here)))
-      (given s e.node (λ S ours. (seen S ours).node), held.node) (λ m way. (given s m (λ S ours. (seen S ours).ways m way), held.ways m way)) writes (λ S ours.
-      let k = seen S ours in
-      opens_may S w w t x e.node e.ids e.parents modes ours (later_new S w t x x.made ours is (omega arith)) (inl k.node) (λ m way. inl (k.ways m way)) (inr k.ids) (reads S ours)))
-      (rests_opening w t x is e.node e.ids e.parents modes s.settled)
-      (λ counts. inl (on (AttrOf e.node) (inr (counts, refl)))) (opening_counted w s.coherent t x is (fresh_next w t x is) e.node e.ids e.parents modes)
+      → ((S : ℕ → Bool) → S t ≡ true → tells (counts_at w e.node) modes ≡ true → (h : Header) → header_at w e.node ≡ Some h → SeesBody S w e.node h) → Whole t (Full w t T) w w (opening t x e.node e.ids e.parents modes)
+  port_whole {T} s e modes on writes held seen reads = record {
+    piece =
+        opens_piece w t x is e.node e.ids e.parents modes (stands s) (own_task w t T) (inr (inr (fresh_new w t x is))) (λ p here. inl (on p here))
+        (given s e.node (λ S ours. (seen S ours).node), held.node) (λ m way. (given s m (λ S ours. (seen S ours).ways m way), held.ways m way)) writes (λ S ours.
+        let k = seen S ours in
+        opens_may S w w t x e.node e.ids e.parents modes ours (later_new S w t x x.made ours is (omega arith)) (inl k.node) (λ m way. inl (k.ways m way)) (inr k.ids) (reads S ours));
+    rests = rests_opening w t x is e.node e.ids e.parents modes s.settled;
+  }
 
   pub outcome_whole : Sound w → (o : Outcome) → OutcomeHeld w o → ((S : ℕ → Bool) → S t ≡ true → OutcomeSeen S w flags o) → Whole t (Writes o) w w (changes o)
   outcome_whole s (Starts p) held shown =
@@ -122,14 +120,16 @@ module _ (w : World) (t : ℕ) (x : Task) (is : task_at w t ≡ Some x) (flags :
       (whole_then made opened (tt, (tt, tt)) s
       (entered_whole good s t x is q f.dir l.home l.name (may_make w f.dir (Some l.name) File tt l.may) (leads_unless w s.linked f.dir l.header l.is_header l.stands) (asked_node File f n) file refl refl
       (file_hangs f.dir f.owner f.group f.mode) (inr (inl refl)) (inr (inr refl)) (λ S ours. (shown S ours).on.0.0))
-      (λ d. resting (porting t (named 1 x) n ids ways modes) calm (stands d) (opens_piece left t (named 1 x) seat n ids ways modes (stands d) (own_task w t (lookup_parts w o)) (inr (inr (fragments.later_new w t 1 x is)))
-      (λ p on. let same : on.0 ≡ q = cc (on.1, entered_home w n q file f.dir l.name) in inl (inl (rw (on.2, same) refl)))
-      (entered_below w n q file f.dir l.name s.coherent next, inr shape.0) ways_yet (λ writes. (λ h e. let same : file.header ≡ h = cc (entered_header w n q file f.dir l.name, e) in rw (← same) refl, shape.1))
-      (λ S ours.
-      let new : NewTo S w n = later_new S w t x x.made ours is (omega arith) in
-      let k = (shown S ours).on in
-      opens_may S w left t (named 1 x) n ids ways modes ours (later_new S w t x (x.made + 1) ours is (omega arith)) (inr new) (λ m way. inl (k.2 m way)) (inr k.1) (λ read h e. absurd (new.1 (header_old s.coherent n h e)))))
-      (rests_opening left t (named 1 x) seat n ids ways modes d.settled)))
+      (λ d. record {
+        piece =
+            opens_piece left t (named 1 x) seat n ids ways modes (stands d) (own_task w t (lookup_parts w o)) (inr (inr (fragments.later_new w t 1 x is))) touched
+            (entered_below w n q file f.dir l.name s.coherent next, inr shape.0) ways_yet (λ writes. (λ h e. let same : file.header ≡ h = cc (entered_header w n q file f.dir l.name, e) in rw (← same) refl, shape.1))
+            (λ S ours.
+            let new : NewTo S w n = later_new S w t x x.made ours is (omega arith) in
+            let k = (shown S ours).on in
+            opens_may S w left t (named 1 x) n ids ways modes ours (later_new S w t x (x.made + 1) ours is (omega arith)) (inr new) (λ m way. inl (k.2 m way)) (inr k.1) (λ read h e. absurd (new.1 (header_old s.coherent n h e))));
+        rests = rests_opening left t (named 1 x) seat n ids ways modes d.settled;
+      }))
     where
       l : MakeLeads w q f
       l = (shown (λ k. true) refl).leads
@@ -144,7 +144,7 @@ module _ (w : World) (t : ℕ) (x : Task) (is : task_at w t ≡ Some x) (flags :
       made = entered n q file f.dir l.name
 
       opened : List Change
-      opened = porting t (named 1 x) n ids ways modes
+      opened = opening t (named 1 x) n ids ways modes
 
       left : World
       left = apply_all made w
@@ -155,16 +155,16 @@ module _ (w : World) (t : ℕ) (x : Task) (is : task_at w t ≡ Some x) (flags :
       seat : task_at left t ≡ Some (named 1 x)
       seat = entered_task w n q file f.dir l.name x is
 
-      -- the directory's server keeps a tree, and so counts nothing
+      -- the directory's server, which keeps a tree
       its_info : info_at left n ≡ Some (may_make w f.dir (Some l.name) File tt l.may).info
       its_info =
           let server : server_at w q ≡ Some (may_make w f.dir (Some l.name) File tt l.may).info = sym (ap (info_in w.servers) l.home) ∙ (may_make w f.dir (Some l.name) File tt l.may).is_info in
           ap (info_in left.servers) (entered_home w n q file f.dir l.name) ∙ server
 
-      calm : AllCalm left opened
-      calm =
-          let m = may_make w f.dir (Some l.name) File tt l.may in
-          (tt, λ one. (port_calm _ t (new_right t n ids ways (named 1 x)) (inr (ap counts_by its_info ∙ tree_counts m.info.kind m.tree)), λ two. tt))
+      -- it has one user more, and the file is new
+      touched : (p : Part) → OnOpen left n p → Writes o p
+      touched p (inl on) = let same : on.0 ≡ q = cc (on.1, entered_home w n q file f.dir l.name) in inl (inl (rw (on.2, same) refl))
+      touched p (inr ends) = inr (inr (rw (ends.1) (fresh_new w t x is)))
 
       -- and leads nobody on
       shape : (leads_on (shape_at (nodes_of left) n) ≡ false) × (gives_text (shape_at (nodes_of left) n) ≡ false)

@@ -8,7 +8,7 @@ use Rattle.hurd_lookup.specs.declared.request.Request.{Request}
 use Rattle.hurd_lookup.specs.declared.resolve.Landing.{Landing}
 use Rattle.hurd_lookup.specs.declared.resolve.Landing.TheVariants.{Lands, Sleeps}
 use Rattle.hurd_lookup.specs.Lookup.{Place, AtNode, AtName, Elsewhere, Waits, no_ids}
-use Rattle.hurd_lookup.specs.Resolve.{Leg, awake, from_top, landed, path_end, leg_request, legs, most_looks, resolve, resolve_all, right_of}
+use Rattle.hurd_lookup.specs.Resolve.{Leg, awake, from_top, landed, path_end, leg_by, leg_request, legs, most_looks, resolve, resolve_all}
 use Rattle.hurd_lookup.proofs.AlikeLaws.{Alike, ok_alike, err_alike, on_alike, given_alike, first_alike}
 use Rattle.hurd_lookup.proofs.WalkLaws.{Ground, Powers, PlaceOn, WaysOn, no_ids_taken, seen_ground, taken_powers, walk_alike}
 
@@ -39,7 +39,7 @@ module _ {v w : World} {At Near Entries : Name → Type 0} {T : IdSets → Type 
   legs_alike zero l at = err_alike _ ELOOP refl
   legs_alike (suc k) l at =
       on_alike _ _ _ _ _ _ refl (g.header l.node (g.near l.node at.node)) (λ h e. given_alike _ _ _ _ _ _ refl refl (λ short.
-      first_alike (PlaceOn At Entries T) _ _ _ _ _ (walk_alike g (right_of ids l) taken at.ways (leg_request l.path) l.node _ at.node)
+      first_alike (PlaceOn At Entries T) _ _ _ _ _ (walk_alike g (leg_by ids l) taken at.ways (leg_request l.path) l.node _ at.node)
       (λ place is there. landed_alike (leg_request l.path) (legs k v ids) (legs k w ids) (legs_alike k) place there)))
 
   pub path_end_alike : (path : List ℕ) → Alike (EndOn At) (path_end v ids path) (path_end w ids path)

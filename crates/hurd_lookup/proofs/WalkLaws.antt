@@ -2,7 +2,7 @@
 use Rattle.std.proofs.Common.{◌≡◌, ℕ, Bool, true, false, if◌then◌else◌, ◌&&◌, List, [], ◌∷◌, Option, Some, None, refl, sym, ◌∙◌, ap, ap₂, subst, true≢false, inl, inr}
 use Rattle.std.specs.Prelude.{Result, Ok, codes, is_some, option_and_then, slice_get}
 use Rattle.std.proofs.lemmas.Option.{option_and_then_some}
-use Rattle.hurd_machine.proofs.Common.{Active, Allowed, Body, BodyOf, Child, Could, Crossing, Dir, EDIED, ENOENT, Errno, Exec, File, Firm, Header, IdSets, IoRight, IsAmong, Kind, Name, Node, OfSeat, Plain, Seen, Sees, ServerInfo, Taken, ToSearch, Want, World, active_at, asks, bare, body_at, boot_root, bytes_eq, entry_of, header_at, home_at, info_at, is_dir, is_server_root, makes_at, may, nat_cmp, node_at, passive_of, server_at, some_words, targets_at, targets_in, ways_of}
+use Rattle.hurd_machine.proofs.Common.{Active, Allowed, Body, BodyOf, Child, Could, Crossing, Dir, EDIED, ENOENT, Errno, Exec, File, Firm, Header, IdSets, IsAmong, Kind, Name, Node, OfSeat, Plain, Seen, Sees, ServerInfo, Taken, ToSearch, Want, World, active_at, asks, bare, body_at, boot_root, bytes_eq, entry_of, header_at, home_at, info_at, is_dir, is_server_root, makes_at, may, nat_cmp, node_at, passive_of, server_at, some_words, targets_at, targets_in, ways_of}
 use Rattle.std.specs.Option.{option_map}
 use Rattle.std.specs.FinSet.{contains-empty}
 use Rattle.hurd_creds.specs.Bits.{NOTRANS}
@@ -24,7 +24,7 @@ use Rattle.hurd_lookup.specs.declared.walk.Next.{Next}
 use Rattle.hurd_lookup.specs.declared.walk.Next.TheVariants.{There, Entry, Branch, Back, Absent}
 use Rattle.hurd_lookup.specs.Path.{rest_of, onto}
 use Rattle.hurd_lookup.specs.Lookup as lookup
-use Rattle.hurd_lookup.specs.Lookup.{NewPort, Place, AtNode, AtName, Elsewhere, Waits, Crossed, to_parent, came_in_at, step_up, shows_name, branch_in, entry_or, step_asks, is_exclusive, is_last, no_ids, go_back, ways_into, go_into, enter, link_place, follow, hold_on, crossing, root_asks, cross, root_on, crossed_at, to_cross, across, over, stepped, walk}
+use Rattle.hurd_lookup.specs.Lookup.{Authority, NewPort, Place, AtNode, AtName, Elsewhere, Waits, Crossed, to_parent, came_in_at, step_up, shows_name, branch_in, entry_or, step_asks, is_exclusive, is_last, no_ids, go_back, ways_into, go_into, enter, link_place, follow, hold_on, crossing, root_asks, cross, root_on, crossed_at, to_cross, across, over, stepped, walk}
 use Rattle.hurd_lookup.proofs.AlikeLaws.{Alike, ok_alike, err_alike, on_alike, given_alike, first_alike, if_alike}
 
 -- a walk can be at the nodes of ways
@@ -174,9 +174,9 @@ pub taken_powers : (S : ℕ → Bool) (v : World) (ids : IdSets) → Taken S v i
 taken_powers S v ids taken h want m = Allowed ids taken m
 
 -- what a walk asks is the same in both worlds, it leads to where it can be, and no refusal on the way is want of memory
-module _ {v w : World} {At Near Entries : Name → Type 0} {T : IdSets → Type 0} (g : Ground v w At Near Entries T) (q : IoRight) (taken : T q.ids) (ways : WaysOn At q.parents) where
+module _ {v w : World} {At Near Entries : Name → Type 0} {T : IdSets → Type 0} (g : Ground v w At Near Entries T) (q : Authority) (taken : T q.ids) (ways : WaysOn At q.ways) where
   -- one way more
-  longer : (n d : Name) → At n → At d → WaysOn At (record { at = n; parent = d } ∷ q.parents)
+  longer : (n d : Name) → At n → At d → WaysOn At (record { at = n; parent = d } ∷ q.ways)
   longer n d at left m (inl e) = subst At e at
   longer n d at left m (inr (inl e)) = subst At e left
   longer n d at left m (inr (inr i)) = ways m i
@@ -232,7 +232,7 @@ module _ {v w : World} {At Near Entries : Name → Type 0} {T : IdSets → Type 
       let s = g.searches q.ids taken d h near is k m in
       if_alike _ (bytes_eq name (codes ".")) _ _ _ _ _ refl (ok_alike _ (There d) at) (
       if_alike _ (bytes_eq name (codes "..")) _ _ _ _ _ refl
-      (if_alike _ (came_in_at q.parents d) _ _ _ _ _ refl (ok_alike _ Back tt) (if_alike _ _ _ _ _ _ _ (g.is_root d near) (ok_alike _ (There d) at) (parent_alike d at h is h.parent refl)))
+      (if_alike _ (came_in_at q.ways d) _ _ _ _ _ refl (ok_alike _ Back tt) (if_alike _ _ _ _ _ _ _ (g.is_root d near) (ok_alike _ (There d) at) (parent_alike d at h is h.parent refl)))
       (entry_alike d at h is _ _ _ _ (ap (entry_of name) s.same) (s.down name)
       (subst (λ (bs : List Name). Alike (NextOn At Entries d) (Ok (branch_in v q.ids name (branches_at v d))) (Ok (branch_in w q.ids name bs))) (sym (branches_face (info_at v d) (info_at w d) (g.face d near)))
       (branch_alike d at h is name s.entries (branches_at v d) (λ b among. g.aims d b near (branch_aimed (info_at v d) b among)))))))))
@@ -292,11 +292,11 @@ module _ {v w : World} {At Near Entries : Name → Type 0} {T : IdSets → Type 
     stepped_alike d name names (There n) j k at here onward = onward n here
     stepped_alike d name names (Entry n) j k at here onward =
         over_alike d n _ _ names (j n) (k n) (ap (λ (o : Option Crossed). if is_last names && asks r.flags NOTRANS then None else o) (g.crossed n (g.near n here))) at here (is_active v r n names) (onward n here)
-    stepped_alike d name names Back j k at here onward = back_alike r names q.parents ways
-    stepped_alike d name names (Branch b) j k at here onward = ok_alike _ (go_into q r b (name ∷ names)) (record { node = here; ids = g.none; ways = into_branch q.parents ways b here })
+    stepped_alike d name names Back j k at here onward = back_alike r names q.ways ways
+    stepped_alike d name names (Branch b) j k at here onward = ok_alike _ (go_into q r b (name ∷ names)) (record { node = here; ids = g.none; ways = into_branch q.ways ways b here })
     stepped_alike d name names Absent j k at here onward = given_alike _ _ _ _ _ _ refl refl (λ e. ok_alike _ (AtName d name) here)
 
     -- along the names
     pub walk_alike : (d : Name) (names : List (List ℕ)) → At d → Alike (PlaceOn At Entries T) (walk v q r d names) (walk w q r d names)
-    walk_alike d [] at = given_alike _ _ _ _ _ _ refl refl (λ e. ok_alike _ (AtNode d q.parents) (at, ways))
+    walk_alike d [] at = given_alike _ _ _ _ _ _ refl refl (λ e. ok_alike _ (AtNode d q.ways) (at, ways))
     walk_alike d (name ∷ names) at = first_alike _ _ _ _ _ _ (step_alike d name at) (λ s is here. stepped_alike d name names s _ _ at here (λ n there. walk_alike n names there))

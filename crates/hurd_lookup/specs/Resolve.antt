@@ -7,14 +7,13 @@ use Rattle.hurd_creds.specs.Access.{IdSets}
 use Rattle.hurd_trans_iface.specs.Nodes.{is_dir}
 use Rattle.hurd_trans_iface.specs.SymlinkKind.{is_absolute}
 use Rattle.hurd_ports.specs.declared.parents.Parent.{Parent}
-use Rattle.hurd_ports.specs.declared.table.IoRight.{IoRight}
 use Rattle.hurd_machine.specs.World.{World, boot_root, header_at}
 use Rattle.hurd_machine.specs.Plan.{on, given, first}
 use Rattle.hurd_lookup.specs.declared.request.Request.{Request}
 use Rattle.hurd_lookup.specs.declared.resolve.Landing.{Landing}
 use Rattle.hurd_lookup.specs.declared.resolve.Landing.TheVariants.{Lands, Sleeps}
 use Rattle.hurd_lookup.specs.Path.{names_in, is_short}
-use Rattle.hurd_lookup.specs.Lookup.{NewPort, Place, AtNode, AtName, Elsewhere, Waits, no_modes, request, walk}
+use Rattle.hurd_lookup.specs.Lookup.{Authority, NewPort, Place, AtNode, AtName, Elsewhere, Waits, no_modes, request, walk}
 
 -- from which node, come in by which ways, and along which path it goes on
 pub record Leg : Type 0 where
@@ -35,9 +34,9 @@ leg_at name (Some e) = Ok (record { node = e.node; ways = e.parents; path = name
 abbrev pub leg_request : List ℕ → Request
 leg_request path = request path no_modes (record { 0 = 0 })
 
--- by which right it goes with these ids; its open is not asked for
-abbrev pub right_of : IdSets → Leg → IoRight
-right_of ids l = record { node = l.node; ids = ids; open_name = boot_root; parents = l.ways }
+-- by what it goes, with these ids
+abbrev pub leg_by : IdSets → Leg → Authority
+leg_by ids l = record { ids = ids; ways = l.ways }
 
 -- at the end of a walk: the node is there, and a directory if one is asked for; or it goes on elsewhere; or it ends where a translator waits to be started
 abbrev pub landed : World → Request → (Leg → Result Landing Errno) → Place → Result Landing Errno
@@ -51,7 +50,7 @@ abbrev pub leg_asks : World → IdSets → Leg → (Leg → Result Landing Errno
 leg_asks w ids l onward =
     on EDIED (header_at w l.node) (λ h.
     given ENAMETOOLONG (is_short l.path) (
-    first (walk w (right_of ids l) (leg_request l.path) l.node (names_in l.path)) (landed w (leg_request l.path) onward)))
+    first (walk w (leg_by ids l) (leg_request l.path) l.node (names_in l.path)) (landed w (leg_request l.path) onward)))
 
 -- with so many looks: ELOOP where one more is wanted
 abbrev pub legs : ℕ → World → IdSets → Leg → Result Landing Errno

@@ -5,19 +5,19 @@ ghost use Rattle.hurd_ports.specs.Limits.{most_parents};
 ghost use Rattle.hurd_core.specs.Core.{Does, room_asks, world_of};
 ghost use Rattle.hurd_machine.specs.Change.{opening};
 ghost use Rattle.hurd_lookup.specs.Lookup.{no_ids, ways_into};
-ghost use Rattle.hurd_lookup.specs.Ends.{right_by, ways_by, port_of, port_told, port_without_ids};
+ghost use Rattle.hurd_lookup.specs.Ends.{authority_of, port_of, port_told, port_without_ids, ways_by};
 
 use hurd_core::Core;
 use hurd_creds::{Errno, Ids, NodeName, OpenFlags, TaskId};
-use hurd_ports::{IoRight, Parent, Parents};
+use hurd_ports::{Parent, Parents};
 use hurd_trans_iface::Server;
 use std::alloc::{AllocError, Global};
 
-/// By what a lookup goes: the right of a port, and the ids that it asks with, which may be others.
+/// By what a lookup goes: the ids that it asks with, and the ways that it came in by.
 #[derive(Clone, Copy, Debug)]
 pub(crate) struct Authority<'a> {
-    pub(crate) right: &'a IoRight,
     pub(crate) ids: &'a Ids,
+    pub(crate) ways: &'a Parents,
 }
 
 /// A port that is to be made.
@@ -29,22 +29,26 @@ pub(crate) struct NewPort {
 }
 
 impl Authority<'_> {
-    /// The port's ways, behind the one by which a server was entered, if one was.
-    pub(crate) fn ways(&self, alloc: Global, entered: Option<Parent>) -> Result<Parents, AllocError>
-        requires { IfSome entered (λ way. length (right_by self.now).parents < most_parents) }
-        ensures { IfOk result (λ ways. ways ≡ ways_by entered (right_by self.now).parents) }
+    /// The ways, behind the one by which a server was entered, if one was.
+    pub(crate) fn ways_by(
+        &self,
+        alloc: Global,
+        entered: Option<Parent>,
+    ) -> Result<Parents, AllocError>
+        requires { IfSome entered (λ way. length (authority_of self.now).ways < most_parents) }
+        ensures { IfOk result (λ ways. ways ≡ ways_by entered (authority_of self.now).ways) }
     {
         match entered {
-            Some(way) => self.right.parents.entered(alloc, way),
-            None => self.right.parents.copied(alloc),
+            Some(way) => self.ways.entered(alloc, way),
+            None => self.ways.copied(alloc),
         }
     }
 
-    /// The port's ways, where the latest leads into a branch of the union that it came in by.
+    /// The ways, where the latest leads into a branch of the union that it came in by.
     pub(crate) fn ways_into(&self, alloc: Global, branch: NodeName) -> Result<Parents, AllocError>
-        ensures { IfOk result (λ ways. ways ≡ ways_into branch (right_by self.now).parents) }
+        ensures { IfOk result (λ ways. ways ≡ ways_into branch (authority_of self.now).ways) }
     {
-        let ways = self.right.parents.as_slice();
+        let ways = self.ways.as_slice();
         let Some(way) = ways.first() else {
             return Ok(Parents::none(alloc));
         };
@@ -52,7 +56,7 @@ impl Authority<'_> {
             at: branch,
             parent: way.parent,
         };
-        self.right.parents.left(alloc)?.entered(alloc, way)
+        self.ways.left(alloc)?.entered(alloc, way)
     }
 
     /// A port with the ids that this goes by.
@@ -62,14 +66,14 @@ impl Authority<'_> {
         node: NodeName,
         entered: Option<Parent>,
     ) -> Result<NewPort, AllocError>
-        requires { IfSome entered (λ way. length (right_by self.now).parents < most_parents) }
+        requires { IfSome entered (λ way. length (authority_of self.now).ways < most_parents) }
         ensures { IfOk result (λ port. port_of port
-            ≡ record { node = node; ids = (right_by self.now).ids; parents = ways_by entered (right_by self.now).parents }) }
+            ≡ record { node = node; ids = (authority_of self.now).ids; parents = ways_by entered (authority_of self.now).ways }) }
     {
         Ok(NewPort {
             node,
             ids: self.ids.copied(alloc)?,
-            parents: self.ways(alloc, entered)?,
+            parents: self.ways_by(alloc, entered)?,
         })
     }
 }
@@ -100,7 +104,7 @@ impl NewPort {
         modes: OpenFlags,
     ) -> Result<u64, Errno>
         ensures { let w = world_of S.meaning core.old in let e = port_of self in
-            Does w (room_asks w task.0 1) (λ x. opening w task.0 x e.node e.ids e.parents modes) (λ x. x.next) result (world_of S.meaning core.new) }
+            Does w (room_asks w task.0 1) (λ x. opening task.0 x e.node e.ids e.parents modes) (λ x. x.next) result (world_of S.meaning core.new) }
     {
         let NewPort { node, ids, parents } = self;
         core.open(task, node, ids, parents, modes)

@@ -3,11 +3,10 @@ ghost use Rattle.std.specs.Prelude.{◌≡◌, ◌&&◌};
 ghost use Rattle.std.specs.Option.{option_map};
 ghost use Rattle.hurd_creds.specs.Bits.{NOLINK, asks};
 ghost use Rattle.hurd_machine.specs.World.{World};
-ghost use Rattle.hurd_ports.specs.declared.table.IoRight.{IoRight};
 ghost use Rattle.hurd_core.specs.Core.{world_of};
 ghost use Rattle.hurd_lookup.specs.Path.{names_in};
-ghost use Rattle.hurd_lookup.specs.Lookup.{cross, crossed_at, enter, follow, hold_on, is_last, root_on, to_cross};
-ghost use Rattle.hurd_lookup.specs.Ends.{CanGo, Finds, crossed_of, place_of, right_by, text_at};
+ghost use Rattle.hurd_lookup.specs.Lookup.{Authority as AuthorityAt, cross, crossed_at, enter, follow, hold_on, is_last, root_on, to_cross};
+ghost use Rattle.hurd_lookup.specs.Ends.{CanGo, Finds, authority_of, crossed_of, place_of, text_at};
 
 use crate::authority::Authority;
 use crate::request::Request;
@@ -76,10 +75,10 @@ fn enter<'a>(
     root: NodeName,
     rest: &'a [u8],
 ) -> Result<Place<'a>, Errno>
-    ensures { (w : World) → let q = right_by authority.entry in
+    ensures { (w : World) → let q = authority_of authority.entry in
         Finds (place_of w q) (CanGo w q) (enter q request dir root (names_in rest.entry.now)) result }
 {
-    if authority.right.parents.is_full() {
+    if authority.ways.is_full() {
         return Err(Errno::ELOOP);
     }
     let way = Parent {
@@ -106,7 +105,7 @@ fn follow<'a, S: Server>(
     root: NodeName,
     rest: &'a [u8],
 ) -> Result<Place<'a>, Errno>
-    ensures { (q : IoRight) → let w = world_of S.meaning core.now in
+    ensures { (q : AuthorityAt) → let w = world_of S.meaning core.now in
         Finds (place_of w q) (CanGo w q) (follow absolute q request dir (text_at w root) (names_in rest.entry.now)) result }
 {
     if !fits(text_at(core, root), rest, request.slash) {
@@ -136,7 +135,7 @@ fn hold_on<'a, S: Server>(
     target: Option<NodeName>,
     rest: &'a [u8],
 ) -> Result<Place<'a>, Errno>
-    ensures { let w = world_of S.meaning core.now in let q = right_by authority.entry in
+    ensures { let w = world_of S.meaning core.now in let q = authority_of authority.entry in
         Finds (place_of w q) (CanGo w q) (hold_on w q request dir target (names_in rest.entry.now)) result }
 {
     let Some(node) = target else {
@@ -145,7 +144,7 @@ fn hold_on<'a, S: Server>(
     if core.attrs(node).is_none() {
         return Err(Errno::EDIED);
     }
-    if authority.right.parents.is_full() {
+    if authority.ways.is_full() {
         return Err(Errno::ELOOP);
     }
     let way = Parent {
@@ -179,7 +178,7 @@ pub(crate) fn cross<'a, S: Server>(
     root: NodeName,
     rest: &'a [u8],
 ) -> Result<Place<'a>, Errno>
-    ensures { let w = world_of S.meaning core.now in let q = right_by authority.entry in
+    ensures { let w = world_of S.meaning core.now in let q = authority_of authority.entry in
         Finds (place_of w q) (CanGo w q) (cross w q request dir root (names_in rest.entry.now)) result }
 {
     if core.attrs(root).is_none() {

@@ -6,7 +6,7 @@ ghost use Rattle.hurd_trans_iface.specs.Nodes.{is_dir};
 ghost use Rattle.hurd_machine.specs.World.{info_at, is_text, only_reads};
 ghost use Rattle.hurd_core.specs.Core.{world_of};
 ghost use Rattle.hurd_lookup.specs.Lookup.{end_asks, make_asks, may_open, open_asks};
-ghost use Rattle.hurd_lookup.specs.Ends.{CanEnd, CanGo, Finds, opened, outcome_of, place_of, right_by};
+ghost use Rattle.hurd_lookup.specs.Ends.{CanEnd, CanGo, Finds, authority_of, opened, outcome_of, place_of};
 
 use crate::authority::Authority;
 use crate::request::Request;
@@ -105,7 +105,7 @@ fn make_asked<'a, S: Server>(
     dir: NodeName,
     name: &'a [u8],
 ) -> Result<Outcome<'a>, Errno>
-    ensures { let w = world_of S.meaning core.now in let q = right_by authority.entry in
+    ensures { let w = world_of S.meaning core.now in let q = authority_of authority.entry in
         Finds (outcome_of w q) (CanEnd w q) (make_asks w q request dir name.entry.now) result }
 {
     core.can_make(dir, Some(name), Kind::File)?;
@@ -143,8 +143,8 @@ pub(crate) fn end_asked<'a, S: Server>(
     request: Request,
     place: Place<'a>,
 ) -> Result<Outcome<'a>, Errno>
-    requires { CanGo (world_of S.meaning core.now) (right_by authority) place }
-    ensures { let w = world_of S.meaning core.now in let q = right_by authority.entry in
+    requires { CanGo (world_of S.meaning core.now) (authority_of authority) place }
+    ensures { let w = world_of S.meaning core.now in let q = authority_of authority.entry in
         Finds (outcome_of w q) (CanEnd w q) (end_asks w q request (place_of w q place.entry)) result }
 {
     match place {

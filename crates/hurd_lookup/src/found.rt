@@ -85,7 +85,7 @@ impl<'p> FoundAt<'_, 'p> {
             }
             Outcome::Makes(server, file) => {
                 let ids = authority.ids.copied(alloc)?;
-                let parents = authority.right.parents.copied(alloc)?;
+                let parents = authority.ways.copied(alloc)?;
                 Ok(Ready::Makes(server, file, ids, parents))
             }
             Outcome::Retries(retry) => {

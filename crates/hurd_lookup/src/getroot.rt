@@ -18,10 +18,11 @@ use hurd_machine::Lookup;
 use hurd_trans_iface::Server;
 use std::alloc::Global;
 
-/// The root of a server, and by what it is entered.
+/// The root of a server, and from where and by what it is entered.
 #[derive(Clone, Copy, Debug)]
 pub(crate) struct Entrance<'a> {
     root: NodeName,
+    start: NodeName,
     authority: Authority<'a>,
 }
 
@@ -51,7 +52,11 @@ fn entrance_asked<S: Server>(
     let ids = core.ids(task)?;
     Ok(Entrance {
         root,
-        authority: Authority { right, ids },
+        start: right.node,
+        authority: Authority {
+            ids,
+            ways: &right.parents,
+        },
     })
 }
 
@@ -83,8 +88,12 @@ fn root_asked<'a, S: Server>(
     ensures { let w = world_of S.meaning core.entry.now in
         Finds (found_of w) (CanBe w) (getroot_asks w task.0 control dir request) result }
 {
-    let Entrance { root, authority } = entrance_asked(core, task, control, dir)?;
-    let place = cross(core, authority, request, authority.right.node, root, &[])?;
+    let Entrance {
+        root,
+        start,
+        authority,
+    } = entrance_asked(core, task, control, dir)?;
+    let place = cross(core, authority, request, start, root, &[])?;
     let outcome = end_asked(core, authority, request, place)?;
     Ok(FoundAt { authority, outcome })
 }

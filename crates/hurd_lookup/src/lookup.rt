@@ -42,8 +42,8 @@ fn found_asked<'a, 'p, S: Server>(
         return Err(Errno::ENAMETOOLONG);
     }
     let authority = Authority {
-        right,
         ids: &right.ids,
+        ways: &right.parents,
     };
     let place = walk(core, authority, request, right.node, path)?;
     let outcome = end_asked(core, authority, request, place)?;

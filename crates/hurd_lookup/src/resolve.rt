@@ -6,7 +6,7 @@ ghost use Rattle.hurd_trans_iface.specs.SymlinkKind.{is_absolute};
 ghost use Rattle.hurd_ports.specs.Limits.{most_parents};
 ghost use Rattle.hurd_ports.specs.declared.parents.Parent.{Parent};
 ghost use Rattle.hurd_core.specs.Core.{world_of};
-ghost use Rattle.hurd_lookup.specs.Ends.{CanGo, name_of, place_of, port_by, right_by, way_of};
+ghost use Rattle.hurd_lookup.specs.Ends.{CanGo, authority_of, name_of, place_of, port_by, way_of};
 ghost use Rattle.hurd_lookup.specs.Lookup.{AtNode};
 ghost use Rattle.hurd_lookup.specs.declared.resolve.Landing.{Landing as LandingAt};
 ghost use Rattle.hurd_lookup.specs.Resolve.{Leg as LegAt, from_top, landed, path_end, leg_asks, leg_at, resolve, resolve_all};
@@ -21,7 +21,7 @@ use bitflags::Flags;
 use hurd_core::Core;
 use hurd_creds::{Bytes, Errno, Ids, Mode, NodeName, OpenFlags};
 use hurd_nodes::BOOT_NAME;
-use hurd_ports::{IoRight, Parents};
+use hurd_ports::Parents;
 use hurd_trans_iface::{Server, is_dir};
 use std::alloc::{AllocError, Global};
 
@@ -88,9 +88,9 @@ fn onward<S: Server>(
     authority: Authority,
     retry: Retry,
 ) -> Result<Leg, Errno>
-    requires { IfSome (way_of retry.onward) (λ way. length (right_by authority).parents < most_parents) }
+    requires { IfSome (way_of retry.onward) (λ way. length (authority_of authority).ways < most_parents) }
     ensures { let w = world_of S.meaning core.now in
-        OrLacks leg_of (leg_at (name_of w retry.entry) (port_by (right_by authority.entry) retry.entry.onward)) result }
+        OrLacks leg_of (leg_at (name_of w retry.entry) (port_by (authority_of authority.entry) retry.entry.onward)) result }
 {
     let name = retry.name(core, alloc)?;
     match retry.onward.port(alloc, authority)? {
@@ -125,7 +125,7 @@ fn landed<S: Server>(core: &Core<S>, request: Request, node: NodeName) -> Result
     Ok(node)
 }
 
-/// Where a walk by a right ended.
+/// Where a walk ended.
 ///
 /// Errors: those of `landed`, `ENOENT` no such entry, those of `onward`.
 #[tactic(auto, unfolding(hurd_machine::specs::Plan::first))]
@@ -136,9 +136,9 @@ fn ended<S: Server>(
     request: Request,
     place: Place,
 ) -> Result<Looked, Errno>
-    requires { CanGo (world_of S.meaning core.now) (right_by authority) place }
+    requires { CanGo (world_of S.meaning core.now) (authority_of authority) place }
     ensures { let w = world_of S.meaning core.now in
-        Leads w (λ onward. landed w request onward (place_of w (right_by authority.entry) place.entry)) result }
+        Leads w (λ onward. landed w request onward (place_of w (authority_of authority.entry) place.entry)) result }
 {
     match place {
         Place::AtNode(node, _) => {
@@ -165,13 +165,7 @@ fn look<S: Server>(core: &Core<S>, alloc: Global, ids: &Ids, leg: Leg) -> Result
     if !is_short(path.as_slice()) {
         return Err(Errno::ENAMETOOLONG);
     }
-    let right = IoRight {
-        node,
-        ids: ids.copied(alloc)?,
-        open_name: BOOT_NAME,
-        parents: ways,
-    };
-    let authority = Authority { right: &right, ids };
+    let authority = Authority { ids, ways: &ways };
     let request = Request::new(path.as_slice(), OpenFlags::empty(), Mode::empty());
     let place = walk(core, authority, request, node, path.as_slice())?;
     ended(core, alloc, authority, request, place)

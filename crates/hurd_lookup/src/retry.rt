@@ -3,7 +3,7 @@ ghost use Rattle.std.specs.Prelude.{◌≡◌, ◌<◌, length, IfOk, IfSome, Ok
 ghost use Rattle.hurd_creds.specs.Memory.{Meets};
 ghost use Rattle.hurd_ports.specs.Limits.{most_parents};
 ghost use Rattle.hurd_core.specs.Core.{world_of};
-ghost use Rattle.hurd_lookup.specs.Ends.{kind_of, link_of, name_of, port_by, ports_told, right_by, text_at, way_of};
+ghost use Rattle.hurd_lookup.specs.Ends.{authority_of, kind_of, link_of, name_of, port_by, ports_told, text_at, way_of};
 
 use crate::authority::{Authority, NewPort};
 use crate::rest::{onto, rest_of};
@@ -77,20 +77,20 @@ impl Onward {
     ///
     /// `ENOMEM`.
     pub(crate) fn port(self, alloc: Global, authority: Authority) -> Result<Option<NewPort>, Errno>
-        requires { IfSome (way_of self) (λ way. length (right_by authority).parents < most_parents) }
-        ensures { Meets (Ok (port_by (right_by authority.entry) self)) (ports_told result) }
+        requires { IfSome (way_of self) (λ way. length (authority_of authority).ways < most_parents) }
+        ensures { Meets (Ok (port_by (authority_of authority.entry) self)) (ports_told result) }
     {
-        let parents = &authority.right.parents;
+        let ways = authority.ways;
         let port = match self {
             Onward::Within(way) => authority.port(alloc, way.at, Some(way))?,
             Onward::Aimed(way) => {
-                NewPort::without_ids(alloc, way.at, authority.ways(alloc, Some(way))?)?
+                NewPort::without_ids(alloc, way.at, authority.ways_by(alloc, Some(way))?)?
             }
             Onward::Into(node) => {
                 NewPort::without_ids(alloc, node, authority.ways_into(alloc, node)?)?
             }
-            Onward::Back(node) => NewPort::without_ids(alloc, node, parents.left(alloc)?)?,
-            Onward::Beside(dir, _) => NewPort::without_ids(alloc, dir, parents.copied(alloc)?)?,
+            Onward::Back(node) => NewPort::without_ids(alloc, node, ways.left(alloc)?)?,
+            Onward::Beside(dir, _) => NewPort::without_ids(alloc, dir, ways.copied(alloc)?)?,
             Onward::FromTop(_) => return Ok(None),
         };
         Ok(Some(port))

@@ -3,11 +3,10 @@ ghost use Rattle.std.specs.Prelude.{◌≡◌, ◌∷◌};
 ghost use Rattle.hurd_nodes.specs.Shown.{header_in};
 ghost use Rattle.hurd_machine.specs.World.{World, header_at};
 ghost use Rattle.hurd_machine.specs.Plan.{first};
-ghost use Rattle.hurd_ports.specs.declared.table.IoRight.{IoRight};
 ghost use Rattle.hurd_core.specs.Core.{world_of};
 ghost use Rattle.hurd_lookup.specs.Path.{names_in};
-ghost use Rattle.hurd_lookup.specs.Lookup.{arrive, branch_in, came_in_at, go_back, go_into, is_exclusive, miss, over, shows_name, step_asks, step_by, step_up, stepped, to_cross, walk};
-ghost use Rattle.hurd_lookup.specs.Ends.{CanGo, Finds, Goes, place_of, right_by};
+ghost use Rattle.hurd_lookup.specs.Lookup.{Authority as AuthorityAt, arrive, branch_in, came_in_at, go_back, go_into, is_exclusive, miss, over, shows_name, step_asks, step_by, step_up, stepped, to_cross, walk};
+ghost use Rattle.hurd_lookup.specs.Ends.{CanGo, Finds, Goes, authority_of, place_of};
 
 use crate::authority::Authority;
 use crate::cross::{Crossed, cross, to_cross};
@@ -117,13 +116,13 @@ fn step_by<S: Server>(
     attrs: &Attrs,
     name: &[u8],
 ) -> Result<Next, Errno>
-    ensures { result ≡ step_by (world_of S.meaning core.now) (right_by authority.entry) dir (header_in attrs.now) name.now }
+    ensures { result ≡ step_by (world_of S.meaning core.now) (authority_of authority.entry) dir (header_in attrs.now) name.now }
 {
     if name == b".".as_slice() {
         return Ok(Next::There(dir));
     }
     if name == b"..".as_slice() {
-        return step_up(core, &authority.right.parents, dir, attrs);
+        return step_up(core, authority.ways, dir, attrs);
     }
     match core.step(dir, name) {
         Some(node) => Ok(Next::Entry(node)),
@@ -142,7 +141,7 @@ fn step_asked<S: Server>(
     dir: NodeName,
     name: &[u8],
 ) -> Result<Next, Errno>
-    ensures { result ≡ step_asks (world_of S.meaning core.now) (right_by authority.entry) dir name.now }
+    ensures { result ≡ step_asks (world_of S.meaning core.now) (authority_of authority.entry) dir name.now }
 {
     let Some(attrs) = core.attrs(dir) else {
         return Err(Errno::EDIED);
@@ -167,7 +166,7 @@ impl Request {
     /// At the end of the names. `EEXIST`: a node that is there is refused.
     #[tactic(auto, unfolding(hurd_machine::specs::Plan::given))]
     fn arrive<'a>(self, node: NodeName) -> Result<Place<'a>, Errno>
-        ensures { (w : World) (q : IoRight) → Finds (place_of w q) (CanGo w q) (arrive self q.parents node) result }
+        ensures { (w : World) (q : AuthorityAt) → Finds (place_of w q) (CanGo w q) (arrive self q.ways node) result }
     {
         if self.is_exclusive() {
             return Err(Errno::EEXIST);
@@ -178,7 +177,7 @@ impl Request {
     /// A name that no entry has. `ENOENT`: it is not the last, a directory is asked for, or `CREATE` is not.
     #[tactic(auto, unfolding(hurd_machine::specs::Plan::given))]
     fn miss<'a>(self, dir: NodeName, name: &'a [u8], is_last: bool) -> Result<Place<'a>, Errno>
-        ensures { (w : World) (q : IoRight) → Finds (place_of w q) (CanGo w q) (miss self dir name.entry.now is_last) result }
+        ensures { (w : World) (q : AuthorityAt) → Finds (place_of w q) (CanGo w q) (miss self dir name.entry.now is_last) result }
     {
         if is_last && self.flags.asks(OpenFlags::CREATE) && !self.wants_dir {
             Ok(Place::AtName(dir, name))
@@ -198,10 +197,10 @@ fn go_back<'a, S: Server>(
     request: Request,
     rest: &'a [u8],
 ) -> Result<Place<'a>, Errno>
-    ensures { let w = world_of S.meaning core.now in let q = right_by authority.entry in
-        Finds (place_of w q) (CanGo w q) (go_back w request (names_in rest.entry.now) q.parents) result }
+    ensures { let w = world_of S.meaning core.now in let q = authority_of authority.entry in
+        Finds (place_of w q) (CanGo w q) (go_back w request (names_in rest.entry.now) q.ways) result }
 {
-    let Some(way) = authority.right.parents.first() else {
+    let Some(way) = authority.ways.first() else {
         return Err(Errno::ENOENT);
     };
     if core.attrs(way.parent).is_none() {
@@ -226,7 +225,7 @@ fn over<'a, S: Server>(
     node: NodeName,
     rest: &'a [u8],
 ) -> Result<Step<'a>, Errno>
-    ensures { let w = world_of S.meaning core.now in let q = right_by authority.entry in let names = names_in rest.entry.now in
+    ensures { let w = world_of S.meaning core.now in let q = authority_of authority.entry in let names = names_in rest.entry.now in
         Goes w q (λ onward. over w q request dir node (to_cross w request node names) names (onward node)) result }
 {
     let Some(crossed) = to_cross(core, request, node, rest) else {
@@ -246,8 +245,8 @@ fn over<'a, S: Server>(
 
 /// On at a branch of a union, with what is left of the path.
 fn go_into<'a>(request: Request, branch: NodeName, path: &'a [u8]) -> Place<'a>
-    ensures place { (w : World) (q : IoRight) → place_of w q result ≡ go_into q request branch (names_in path.entry.now) }
-    ensures can { (w : World) (q : IoRight) → CanGo w q result }
+    ensures place { (w : World) (q : AuthorityAt) → place_of w q result ≡ go_into q request branch (names_in path.entry.now) }
+    ensures can { (w : World) (q : AuthorityAt) → CanGo w q result }
 {
     Place::Elsewhere(Retry {
         onward: Onward::Into(branch),
@@ -270,7 +269,7 @@ fn stepped<'a, S: Server>(
     rest: &'a [u8],
 ) -> Result<Step<'a>, Errno>
     requires { names_in path.now ≡ name.now ∷ names_in rest.now }
-    ensures { let w = world_of S.meaning core.now in let q = right_by authority.entry in
+    ensures { let w = world_of S.meaning core.now in let q = authority_of authority.entry in
         Goes w q (λ onward. first (step_asks w q dir name.entry.now) (stepped w q request dir name.entry.now (names_in rest.entry.now) onward)) result }
 {
     match step_asked(core, authority, dir, name)? {
@@ -292,7 +291,7 @@ pub(crate) fn walk<'a, S: Server>(
     start: NodeName,
     path: &'a [u8],
 ) -> Result<Place<'a>, Errno>
-    ensures { let w = world_of S.meaning core.now in let q = right_by authority.entry in
+    ensures { let w = world_of S.meaning core.now in let q = authority_of authority.entry in
         Finds (place_of w q) (CanGo w q) (walk w q request start (names_in path.entry.now)) result }
 {
     let mut here = start;

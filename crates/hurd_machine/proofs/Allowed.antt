@@ -1,14 +1,14 @@
 -- The changes that a task of S may make: each keeps a world inside what S saw.
-use Rattle.std.proofs.Common.{◌≡◌, ◌≢◌, ◌⊎◌, ℕ, ◌<◌, ◌≤◌, Bool, true, List, [], Option, Some, None, sym, refl, ◌∙◌, ap, subst, inl, inr, arith}
+use Rattle.std.proofs.Common.{◌≡◌, ◌≢◌, ◌⊎◌, ℕ, ◌<◌, ◌≤◌, Bool, true, List, [], Option, Some, None, sym, refl, ◌∙◌, ◌||◌, ◌&&◌, ap, ap₂, subst, inl, inr, arith}
 use Rattle.std.specs.Option.{option_map}
-use Rattle.hurd_machine.proofs.Common.{Attach, Body, BodyOf, Change, Coherent, Content, Control, DropServer, EditBody, EditHeader, EditOpen, EditTask, HasUid, Header, Holds, Io, IoRight, IsAmong, Listing, MakeNode, MakeOpen, Name, Node, Opened, OptionsOf, Right, SeesBody, Send, ServerInfo, SetText, Settle, Start, Taken, Task, Unseat, World, active_at, apply, body_at, counts_at, edit, edit_task, entry_in, entry_of, get, header_at, home_at, is_other, new_site, open_at, rights_of, server_at, task_at, tells, with_body, with_header, with_sent, with_text}
+use Rattle.hurd_machine.proofs.Common.{Attach, Body, BodyOf, Change, Coherent, Content, Control, DropServer, EditBody, EditHeader, EditOpen, EditTask, HasUid, Header, Holds, Io, IoRight, IsAmong, LetGo, Listing, MakeNode, MakeOpen, Name, Node, Opened, OpenOf, OptionsOf, Right, SeesBody, Send, ServerInfo, SetText, Settle, Start, Taken, Task, Unseat, World, active_at, apply, body_at, counts_at, edit, edit_task, entry_in, entry_of, get, header_at, home_at, is_other, new_site, open_at, rights_of, server_at, task_at, tells, with_body, with_header, with_sent, with_text}
 use Rattle.hurd_machine.proofs.Sites.{active_out_was, active_put}
 use Rattle.hurd_nodes.proofs.Sites.{home-inserted, home-edited, home-was}
 use Rattle.hurd_creds.proofs.NameLaws.{same_or_apart, get_here, get_apart, edit_apart}
 use Rattle.hurd_ports.specs.Steps.{named}
 use Rattle.hurd_machine.proofs.Nodes.{header_in, body_in, header-with_header, header-with_body, body-with_header, body-with_body, edit_reads, edit_keeps, edited_from, ByEmptiness, was_edited}
 use Rattle.hurd_machine.proofs.Tasks.{edit_cases, sent_cases}
-use Rattle.hurd_machine.proofs.Coherence.{right_old, HasNoEntries, IsNext, Comes, next_not, next_apart, was, header_was, Proper, lister, entry_lists}
+use Rattle.hurd_machine.proofs.Coherence.{right_old, HasNoEntries, IsNext, Comes, next_not, next_apart, was, header_was, was_settled, KeepsEnds, Proper, lister, entry_lists}
 use Rattle.hurd_machine.proofs.Comes.{attach_is, come_world, come_home_is, come_seat_was}
 use Rattle.hurd_machine.proofs.Drop.{drop_left, server_was as dropped_was}
 use Rattle.hurd_machine.proofs.Left as left
@@ -16,7 +16,7 @@ use Rattle.hurd_machine.proofs.Unseated.{still_active}
 use Rattle.hurd_machine.proofs.Texts.{server_was}
 use Rattle.hurd_machine.proofs.Frame.{IsExact}
 use Rattle.hurd_machine.proofs.Confine.{NewTo, SeenOrNew, Known, Less, Less-refl, Less-trans, IoInside, RightInside, Commands, TakesLess, ServerInside, Inside}
-use Rattle.hurd_machine.proofs.Retained.{was_retained}
+use Rattle.hurd_creds.proofs.Retained.{was_retained}
 
 -- a right to use a node that a task of S may get, but for its ids: where its open is to read, S sees the body
 pub record IoMay (S : ℕ → Bool) (v x : World) (r : IoRight) : Type 0 where
@@ -57,18 +57,15 @@ gained_may S v x r a z ids gains m = (among (RightMay S v x) m.0, elim m.1 [ inl
     among : (B : Right → Type 0) → B r → (q : Right) → IsAmong q (rights_of z) → IsAmong q (rights_of a) ⊎ B q
     among B b q h = elim (gains q h) [ inl old ↦ inl old | inr e ↦ inr (subst B e b) ]
 
--- an open that tells of a node's body afterwards told of it before
-abbrev pub TellsNoMore : (Opened → Opened) → Type 0
-TellsNoMore f = (counts : Bool) (z : Opened) → tells counts (f z).modes ≡ true → tells counts z.modes ≡ true
-
 -- what S saw, its ids among it, is of the world v before the call; what stands is of the world x, in which the change is made
 abbrev pub May : (ℕ → Bool) → World → World → Change → Type 0
 May S v x (EditHeader n f) = (h : Header) → header_at x n ≡ Some h → Less S v n (f h) h
 May S v x (EditBody n g) =
     (ByEmptiness g ⊎ Known S v (BodyOf n)) × ((b : Body) (name : List ℕ) (m : Name) → body_at x n ≡ Some b → entry_of name (Some (g b)) ≡ Some m → (entry_of name (Some b) ≡ Some m) ⊎ SeenOrNew S v m)
 May S v x (MakeNode n s node) = (S n.task.0 ≡ true) × Known S v (OptionsOf s) × ((p : Name) → node.header.parent ≡ Some p → SeenOrNew S v p)
-May S v x (EditOpen o f) = TellsNoMore f
+May S v x (EditOpen o f) = Unit {0}
 May S v x (MakeOpen o z) = S o.task.0 ≡ true
+May S v x (LetGo o) = Known S v (OpenOf o)
 May S v x (EditTask q f) = (S q ≡ true) × ((a : Task) → task_at x q ≡ Some a → OwnMay S v x a (f a) × (HasUid S v 0 ⊎ OwnTaken S v a (f a)))
 May S v x (Send r q) = RightMay S v x r × (HasUid S v 0 ⊎ IdsMay S v r)  -- to any task
 May S v x (Attach s at i node) = (S s.task.0 ≡ true) × ((n : Name) → IsAmong n i.targets → SeenOrNew S v n)
@@ -169,7 +166,7 @@ module _ (S : ℕ → Bool) (v x : World) (coherent : Coherent x) (i : Inside S 
 
   stepped : (c : Change) → IsExact c → Proper x c → May S v x c → Stepped (apply c x)
   stepped (MakeNode n s node) ex p m = stepped_named (apply (MakeNode n s node) x) n 1 p.0 refl
-  stepped (MakeOpen o z) ex p m = stepped_named (apply (MakeOpen o z) x) o 1 p refl
+  stepped (MakeOpen o z) ex p m = stepped_named (apply (MakeOpen o z) x) o 1 p.0 refl
   stepped (EditTask q f) ex p m = let o = m.1 p.1 p.2 in stepped_edit (apply (EditTask q f) x) q f p.1 p.2 refl (p.0 p.1) o.0 o.1
   stepped (Send r q) ex p m = let o = gained_may S v x r p.0 (with_sent r p.0) refl (sent_cases r p.0) m in stepped_edit (apply (Send r q) x) q (with_sent r) p.0 p.1 refl (omega arith) o.0 o.1
   stepped (Attach s at j node) ex p m = stepped_named (apply (Attach s at j node) x) s 2 p.next refl
@@ -200,10 +197,10 @@ module _ (S : ℕ → Bool) (v x : World) (coherent : Coherent x) (i : Inside S 
     | inr new ↦ new.reads l.0 l.1 (l.2 (counts_at v r.node) modes)
   ]
 
-  open_before : (k : Name) (f : Opened → Opened) → TellsNoMore f → (q : Name) (o : Opened) → get (edit k f x.opens) q ≡ Some o
+  open_before : (k : Name) (f : Opened → Opened) → KeepsEnds f → (q : Name) (o : Opened) → get (edit k f x.opens) q ≡ Some o
       → (z : Opened) × (open_at x q ≡ Some z) × ((counts : Bool) → tells counts o.modes ≡ true → tells counts z.modes ≡ true)
   open_before k f m q o e = elim (was_edited x.opens k q f o e) [
-    | inl l ↦ (l.1, ap (open_at x) l.0 ∙ l.2, λ counts modes. m counts l.1 (ap (λ (u : Opened). tells counts u.modes) l.3 ∙ modes))
+    | inl l ↦ (l.1, ap (open_at x) l.0 ∙ l.2, λ counts modes. sym (ap₂ (λ (r w : Bool). r || (counts && w)) (m l.1).1 (m l.1).2) ∙ ap (λ (u : Opened). tells counts u.modes) l.3 ∙ modes)
     | inr h ↦ (o, h, λ counts modes. modes)
   ]
 
@@ -211,11 +208,12 @@ module _ (S : ℕ → Bool) (v x : World) (coherent : Coherent x) (i : Inside S 
   Reads y = (r : IoRight) (o : Opened) → Holds S y (Io r) → open_at y r.open_name ≡ Some o → tells (counts_at v r.node) o.modes ≡ true → (h : Header) → header_at v r.node ≡ Some h → SeesBody S v r.node h
 
   reads_next : (c : Change) → IsExact c → Proper x c → May S v x c → Stepped (apply c x) → Reads (apply c x)
-  reads_next (EditOpen k f) ex p m st r o held e modes = reads_by (apply (EditOpen k f) x) st r o held (open_before k f m r.open_name o e) modes
+  reads_next (EditOpen k f) ex p m st r o held e modes = reads_by (apply (EditOpen k f) x) st r o held (open_before k f p r.open_name o e) modes
   reads_next (MakeOpen k z) ex p m st r o held e modes =
-      let old : Holds S x (Io r) = named_holder (apply (MakeOpen k z) x) k p refl (Io r) held in
-      let apart : r.open_name ≢ k = next_apart x k r.open_name p (right_old coherent old.task old.seat r old.is_task old.here).1 in
+      let old : Holds S x (Io r) = named_holder (apply (MakeOpen k z) x) k p.0 refl (Io r) held in
+      let apart : r.open_name ≢ k = next_apart x k r.open_name p.0 (right_old coherent old.task old.seat r old.is_task old.here).1 in
       i.reads r o old (sym (get_apart x.opens k z r.open_name apart) ∙ e) modes
+  reads_next (LetGo k) ex p m st r o held e modes = reads_by (apply (LetGo k) x) st r o held (o, was_settled x.tasks x.opens k r.open_name o e, λ counts h. h) modes
   reads_next Settle ex p m st r o held e modes = absurd ex
   reads_next c ex p m st r o held e modes = reads_by (apply c x) st r o held (o, e, λ counts k. k) modes
 

@@ -1,7 +1,7 @@
 -- What a call asks: the same in worlds that answer the same, what an answer shows, and that no answer is want of memory.
 use Rattle.std.proofs.Common.{List, ◌≡◌, ℕ, Bool, true, false, Option, Some, None, refl, sym, ◌∙◌, ap, ap₂, subst, true≢false, ◌&&◌}
 use Rattle.std.specs.Prelude.{if◌then◌else◌, not, is_some, nat_lt, Result, Ok, Err}
-use Rattle.hurd_machine.proofs.Common.{Body, BodyOf, Coherent, InRoot, faced, known_text, reads_text, server_at, with_text, EBADF, EDIED, EEXIST, EISDIR, ENOTDIR, EOPNOTSUPP, EOVERFLOW, EROFS, ESRCH, EXDEV, Errno, Header, Holds, Io, IoRight, IsAmong, IsOpen, Kind, Name, Named, Node, OpenFlags, Plan, Question, READ, Reply, Right, Seen, Sees, ServerInfo, Task, WRITE, World, answered, are_kin, asked_at, asked_of, asks, counts_at, counts_by, edit_by, entry_of, first, get, given, handle_asks, header_at, home_at, info_at, info_in, io_right_of, is_dir, is_made, is_no_memory, is_refused, is_root_at, is_server_root, is_taken, keeps_tree, link_by, link_in, links_at, makes_at, most_links, on, open_at, or_refuse, port_asks, ports_of, refuse, right_at, right_in, rights_of, sets_attrs_at, stream_at, task_at, task_of, tells, writing}
+use Rattle.hurd_machine.proofs.Common.{Body, BodyOf, Coherent, InRoot, faced, known_text, reads_text, server_at, with_text, EBADF, EDIED, EEXIST, EISDIR, ENOTDIR, EOPNOTSUPP, EOVERFLOW, EROFS, ESRCH, EXDEV, Errno, Header, Holds, Io, IoRight, IsAmong, IsOpen, Kind, Name, Named, Node, OpenFlags, Plan, Question, READ, Reply, Right, Seen, Sees, ServerInfo, Task, WRITE, World, answered, are_kin, asked_at, asked_of, asks, counts_at, counts_by, edit_by, ends_at, entry_of, first, get, given, handle_asks, header_at, home_at, info_at, info_in, io_right_of, is_dir, is_made, is_no_memory, is_refused, is_root_at, is_server_root, is_taken, keeps_tree, link_by, link_in, links_at, makes_at, most_links, on, open_at, or_refuse, port_asks, ports_of, refuse, right_at, right_in, rights_of, sets_attrs_at, stream_at, task_at, task_of, tells, writing, EndsOf}
 use Rattle.hurd_trans_iface.specs.Kinds.{ServerKind, behaviour_of}
 use Rattle.hurd_trans_iface.specs.Behaviour.{resizing}
 use Rattle.hurd_trans_iface.specs.Meaning.{root_of}
@@ -11,6 +11,7 @@ use Rattle.hurd_ports.specs.Tables.{right_of, io_right_in}
 use Rattle.hurd_machine.specs.Calls.{lacks_memory}
 use Rattle.hurd_machine.specs.declared.call.Reply.TheVariants.{Refused, Back}
 use Rattle.hurd_nodes.specs.Needs.{streams_by}
+use Rattle.hurd_machine.proofs.Ends.{ends_by}
 use Rattle.hurd_machine.specs.World.{count_in, readable_at, nodes_of}
 use Rattle.hurd_machine.specs.declared.handle.Handle.{Handle}
 use Rattle.hurd_machine.specs.Sight.{Held}
@@ -305,12 +306,12 @@ readable_untold at (Some x) i out text known = (good i.kind).guards.readable_unt
 pub resizing_blind : (size : ℕ) (k : ServerKind) → IsBlind (resizing size) k
 resizing_blind size k old new h c e = (good k).guards.set_size_untold old new (record { header = h; body = e }) size ∙ (good k).set_size_blind old size h c e
 
-writing_blind : (at : ℕ) (bs : List ℕ) (k : ServerKind) → (behaviour_of k).counts ≡ false → IsBlind (writing at bs) k
-writing_blind at bs k out old new h c e = (good k).guards.write_untold old new (record { header = h; body = e }) at bs ∙ (good k).write_blind out old at bs h c e
+writing_blind : (at : ℕ) (bs : List ℕ) (readers : ℕ) (k : ServerKind) → (behaviour_of k).counts ≡ false → IsBlind (writing at bs readers) k
+writing_blind at bs readers k out old new h c e = (good k).guards.write_untold old new (record { header = h; body = e }) at bs readers ∙ (good k).write_blind out old at bs readers h c e
 
 -- the text plays no part in whether attributes may be set, or a node may get another name
 
-edit_face : (o : Option Node) (i : ServerInfo) → edit_by keeps_tree (Some (faced i)) o ≡ edit_by keeps_tree (Some i) o
+edit_face : (o : Option Node) (i : ServerInfo) → edit_by (Some (faced i)) o ≡ edit_by (Some i) o
 edit_face None i = refl
 edit_face (Some x) i = refl
 
@@ -319,7 +320,7 @@ link_face name kin None o i = refl
 link_face name kin (Some d) o i = refl
 
 -- whether attributes may be set is the same of nodes that are there alike
-there_same : (i : Option ServerInfo) (o p : Option Node) → header_in p ≡ header_in o → edit_by keeps_tree i p ≡ edit_by keeps_tree i o
+there_same : (i : Option ServerInfo) (o p : Option Node) → header_in p ≡ header_in o → edit_by i p ≡ edit_by i o
 there_same None o p h = refl
 there_same (Some i) None None h = refl
 there_same (Some i) (Some x) (Some y) h = refl
@@ -375,11 +376,19 @@ module _ {S : ℕ → Bool} {v w : World} (a : Agree S v w) (n : Name) where
 
   -- whether attributes of a node that S sees may be set
   pub sets_attrs_same : Seen S v n → sets_attrs_at w n ≡ sets_attrs_at v n
-  sets_attrs_same seen = info_alike (λ i. edit_by keeps_tree i (get w.nodes n)) (edit_face (get w.nodes n)) seen ∙ there_same (info_at v n) (get v.nodes n) (get w.nodes n) (header_same a n seen)
+  sets_attrs_same seen = info_alike (λ i. edit_by i (get w.nodes n)) (edit_face (get w.nodes n)) seen ∙ there_same (info_at v n) (get v.nodes n) (get w.nodes n) (header_same a n seen)
 
-  -- whether the server of a node that S sees counts who reads
+  -- whether the server of a node that S sees is told who reads
   pub counts_same : Seen S v n → counts_at w n ≡ counts_at v n
   counts_same seen = info_alike counts_by (λ i. refl) seen
+
+  -- how many opens read and write a node that S sees, of which S sees what is in it where its server is told that
+  pub ends_alike : Seen S v n → (counts_at v n ≡ true → Sees S v (BodyOf n)) → ends_at w n ≡ ends_at v n
+  ends_alike seen sees = go (counts_at v n) refl
+    where
+      go : (b : Bool) → counts_at v n ≡ b → ends_at w n ≡ ends_at v n
+      go true e = let same = a.parts (EndsOf n) (e, sees e) in cc
+      go false e = ends_by v w n (counts_same seen) (λ told. absurd (true≢false (sym told ∙ e)))
 
   -- whether a node that S sees is a stream
   pub stream_same : Seen S v n → stream_at w n ≡ stream_at v n
@@ -399,13 +408,13 @@ module _ {S : ℕ → Bool} {v w : World} (a : Agree S v w) (n : Name) where
   pub asked_same : {T : Type 0} (q : Question T) → ((k : ServerKind) → IsBlind q k) → Seen S v n → asked_at q n w ≡ asked_at q n v
   asked_same q blind s = blind_same q (info_at v n) (info_at w n) (get v.nodes n) (get w.nodes n) (λ k is. blind k.kind) (info_seen s) (header_same a n s)
 
-  -- what is written into a node that S sees, of which S sees what is in it where its server counts who reads
-  pub written_same : (at : ℕ) (bs : List ℕ) → Coherent v → Seen S v n → (counts_at v n ≡ true → Sees S v (BodyOf n)) → asked_at (writing at bs) n w ≡ asked_at (writing at bs) n v
-  written_same at bs c s sees = go (counts_at v n) refl
+  -- what is written into a node that S sees, of which S sees what is in it where its server is told who reads
+  pub written_same : (at : ℕ) (bs : List ℕ) (readers : ℕ) → Coherent v → Seen S v n → (counts_at v n ≡ true → Sees S v (BodyOf n)) → asked_at (writing at bs readers) n w ≡ asked_at (writing at bs readers) n v
+  written_same at bs readers c s sees = go (counts_at v n) refl
     where
-      go : (b : Bool) → counts_at v n ≡ b → asked_at (writing at bs) n w ≡ asked_at (writing at bs) n v
-      go true e = asked_seen (writing at bs) (λ k text out old new x told. (good k).guards.write_untold old new x at bs) c (sees e)
-      go false e = blind_same (writing at bs) (info_at v n) (info_at w n) (get v.nodes n) (get w.nodes n) (λ k is. writing_blind at bs k.kind (sym (ap counts_by is) ∙ e)) (info_seen s) (header_same a n s)
+      go : (b : Bool) → counts_at v n ≡ b → asked_at (writing at bs readers) n w ≡ asked_at (writing at bs readers) n v
+      go true e = asked_seen (writing at bs readers) (λ k text out old new x told. (good k).guards.write_untold old new x at bs readers) c (sees e)
+      go false e = blind_same (writing at bs readers) (info_at v n) (info_at w n) (get v.nodes n) (get w.nodes n) (λ k is. writing_blind at bs readers k.kind (sym (ap counts_by is) ∙ e)) (info_seen s) (header_same a n s)
 
 -- whether a node may get another name is the same of nodes of one header
 file_same : (name : List ℕ) (kin : Bool) (i : Option ServerInfo) (d o p : Option Node) → header_in p ≡ header_in o → link_by name kin i d p ≡ link_by name kin i d o
@@ -453,7 +462,7 @@ makes_plain w d entry kind = go (info_at w d) (get w.nodes d)
 pub sets_attrs_plain : (w : World) (n : Name) → IsPlain (sets_attrs_at w n)
 sets_attrs_plain w n = go (info_at w n) (get w.nodes n)
   where
-    go : (i : Option ServerInfo) (o : Option Node) → IsPlain (edit_by keeps_tree i o)
+    go : (i : Option ServerInfo) (o : Option Node) → IsPlain (edit_by i o)
     go None o = err_plain EDIED refl
     go (Some i) None = err_plain EDIED refl
     go (Some i) (Some x) = if_plain (keeps_tree i.kind) _ _ (ok_plain tt) (err_plain EOPNOTSUPP refl)

@@ -1,7 +1,7 @@
 -- What is shown of a call, and the laws of one step that follow from it.
 use Rattle.std.proofs.Common.{◌≡◌, ◌≢◌, ℕ, Bool, true, false, Option, Some, None, refl, sym, ◌∙◌, ap, subst, inl, inr, true≢false}
 use Rattle.std.specs.Prelude.{Result, Ok, Err}
-use Rattle.hurd_machine.proofs.Common.{AttrOf, Below, BodyOf, CanCount, Coherent, Control, Counted, EmptyOf, Errno, Knows, Meaning, Name, Nothing, OfControl, OfNode, OfSeat, OpenOf, OptionsOf, Part, Plan, Reply, SameView, Seen, Sees, Sound, Task, TaskOf, TextOf, UsersOf, World, after_plan, answered, asked_parts, handing_back, is_refused, looks, task_at}
+use Rattle.hurd_machine.proofs.Common.{AttrOf, Below, BodyOf, Coherent, Control, EmptyOf, Errno, Knows, Meaning, Name, Nothing, OfControl, OfNode, OfSeat, OpenOf, OptionsOf, Part, Plan, Reply, SameView, Seen, Sees, Sound, Task, TaskOf, TextOf, UsersOf, World, after_plan, answered, asked_parts, handing_back, is_refused, looks, task_at, EndsOf}
 use Rattle.hurd_machine.specs.declared.call.Reply.TheVariants.{Refused}
 use Rattle.hurd_machine.specs.Plan.{returning}
 use Rattle.hurd_machine.proofs.Coherence.{AllProper, right_old, home_server}
@@ -70,6 +70,7 @@ sees_named : (S : ℕ → Bool) (w : World) → Coherent w → (p : Part) → Se
 sees_named S w c (AttrOf n) sees new = new (seen_old c n sees)
 sees_named S w c (EmptyOf n) sees new = new (seen_old c n sees.0)
 sees_named S w c (BodyOf n) sees new = new (seen_old c n sees.0)
+sees_named S w c (EndsOf n) sees new = new (seen_old c n sees.1.0)
 sees_named S w c (OpenOf o) sees new = new (subst (Below w) sees.2 (right_old c sees.1.task sees.1.seat sees.0 sees.1.is_task sees.1.here).1)
 sees_named S w c (OptionsOf s) sees new = new (known_named S w c s sees)
 sees_named S w c (TextOf s) sees new = new (c.given.servers s sees.0 sees.1)
@@ -110,10 +111,6 @@ module _ (t : ℕ) (plan : World → Plan) (touches : World → Part → Type 0)
       let q = l.piece w s in
       let left = left_stands (stands s) q.piece in
       record { coherent = left.coherent; linked = left.linked; filled = left.filled; settled = q.rests }
-
-  -- where no count is at its most, readers and writers stay as many as the opens that read and write
-  pub stays_counted : (w : World) → Sound w → CanCount w → Counted w → Counted (after w)
-  stays_counted w s can counted = (l.piece w s).counts can counted
 
   -- where S has its task, S sees afterwards what it saw, and what its task made
   pub confined : (S : ℕ → Bool) (w : World) → Sound w → S t ≡ true → (n : Name) → Seen S (after w) n → SeenOrNew S w n

@@ -7,7 +7,7 @@ use Rattle.hurd_machine.proofs.Sites.{active_put, none_out, not_home}
 use Rattle.hurd_ports.specs.Steps.{named}
 use Rattle.hurd_machine.specs.World.{nodes_of}
 use Rattle.hurd_machine.proofs.Nodes.{header_in}
-use Rattle.hurd_machine.proofs.Retained.{retain_all}
+use Rattle.hurd_creds.proofs.Retained.{retain_all}
 use Rattle.hurd_machine.proofs.Left.{seat_left, left_coherent}
 use Rattle.hurd_machine.proofs.Coherence.{Comes, Newcomer, Serves, made_coherent, info_apart, seat_there, next_not, no_node, no_server, was, home_kept, header_old, named_world, named_coherent, named_still, named_below, unnoded, unaimed, home_server}
 

@@ -33,14 +33,14 @@ pub use Rattle.hurd_trans_iface.specs.Behaviour.{Did, Question, edit_bytes, edit
 pub use Rattle.hurd_trans_iface.specs.Good.{GoodBehaviour}
 pub use Rattle.hurd_trans_iface.specs.Texts.{reads_text}
 pub use Rattle.hurd_trans_iface.specs.Meaning.{Meaning, counts_opens, empty_body, keeps_tree, new_root, options_of, size_of}
-pub use Rattle.hurd_trans_iface.specs.Nodes.{AddNode, Body, Content, Edit, Header, IsShaped, Listing, Node, NodeMap, OnBody, OnHeader, body_of, closed_by, counting, edit_all, has_words, header_of, is_dir, is_empty_dir, is_entered, is_entered_at, is_listed, less_entry, moved_to, new_dir, new_file, node_of_edit, on_bytes, opened_by, passive_of, some_words, unlinked, with_body, with_entry, with_header, with_passive, with_size, without_entry}
+pub use Rattle.hurd_trans_iface.specs.Nodes.{AddNode, Body, Content, Edit, Header, IsShaped, Listing, Node, NodeMap, OnBody, OnHeader, body_of, edit_all, has_words, header_of, is_dir, is_empty_dir, is_entered, is_entered_at, is_listed, less_entry, moved_to, new_dir, new_file, node_of_edit, on_bytes, passive_of, some_words, unlinked, with_body, with_entry, with_header, with_passive, with_size, without_entry}
 pub use Rattle.hurd_trans_iface.specs.declared.header_edit.HeaderEdit.{HeaderEdit}
 pub use Rattle.hurd_trans_iface.specs.declared.new_node.NewNode.{NewNode}
 pub use Rattle.hurd_trans_iface.specs.declared.root.Crossing.{Crossing}
 pub use Rattle.hurd_trans_iface.specs.declared.root.Crossing.TheVariants.{Firm, Plain}
 pub use Rattle.hurd_ports.specs.Seats.{seat_task}
 pub use Rattle.hurd_ports.specs.Steps.{deallocate_at, deallocate_step, edit_task, insert_at, insert_step, name_step, new_open, new_right, new_task, pend_at, pend_step, receive_at, receive_step, received, send_step, sent_to, share_at, share_step, take_ids_at, take_ids_step, taken_by, with_ids, with_ids_for, with_new_port, with_pending, with_port, with_sent, without_port}
-pub use Rattle.hurd_ports.specs.Tables.{IsSettled, OpenMap, PortState, Tables, Task, can_name, count_rights, first_sent, fresh, has_room, ids_at, io_right_of, names_open, naming_of, or_refuse, pending_of, right_at, right_in, rights_of, room_at, room_of, start_of, task_of, u64_greatest, uses_node, ways_of}
+pub use Rattle.hurd_ports.specs.Tables.{IsSettled, OpenMap, PortState, Tables, Task, can_name, count_rights, first_sent, fresh, has_room, ids_at, io_right_of, names_open, naming_of, or_refuse, pending_of, right_at, right_in, rights_of, room_at, room_of, start_of, task_of, u64_greatest, uses_node, ways_of, ends_of, is_end, open_of}
 unfoldable pub use Rattle.hurd_ports.specs.Tables.{is_held}
 pub use Rattle.hurd_creds.specs.Weights.{count_list, one_if}
 pub use Rattle.hurd_ports.specs.declared.table.IoRight.{IoRight}
@@ -54,14 +54,13 @@ pub use Rattle.hurd_nodes.specs.Settle.{Outside, node_stays, stays_by, stays_wit
 pub use Rattle.hurd_nodes.specs.Shown.{NodeState, ServerInfo, are_kin, asked_of, attached, begun_info, begun_root, boot_mode, boot_name, booted, can_make, edit_by, edit_header_at, info_in, is_other, is_root_at, is_root_of, link_by, make_at, out_server, own_edits, own_nodes, server_of, shown, sizing, state_of, takes_options, tree_by, vacated, with_active, with_edits, with_home, with_made, with_text, without_old, without_sites}
 pub use Rattle.hurd_nodes.specs.declared.seat.Site.{Site}
 pub use Rattle.hurd_machine.specs.Calls.{Call, Reply, box_in, call_by, refusal, reply_by}
-pub use Rattle.hurd_machine.specs.Change.{Attach, Change, DropServer, EditBody, EditHeader, EditOpen, EditTask, MakeNode, MakeOpen, Send, SetText, Settle, Unseat, apply, apply_all, changes_of, closes, closing, dropping, namings, opening, outside, outside_by, pending, porting, retexting, stays, with_nodes}
-pub use Rattle.hurd_machine.specs.Counted.{CanCount, Counted, HasOpens, has_mode}
+pub use Rattle.hurd_machine.specs.Change.{Attach, Change, DropServer, EditBody, EditHeader, EditOpen, EditTask, LetGo, MakeNode, MakeOpen, Send, SetText, Settle, Unseat, apply, apply_all, changes_of, dropping, letting_go, namings, opening, outside, outside_by, pending, retexting, stays, with_nodes}
 pub use Rattle.hurd_machine.specs.Handle.{Named, any_mode, both_asks, handle_asks, port_asks}
 pub use Rattle.hurd_machine.specs.Plan.{Plan, Planned, after_plan, handing_back, is_refused, looks, refuse, told}
 unfoldable pub use Rattle.hurd_machine.specs.Plan.{answered, first, given, on}
-pub use Rattle.hurd_machine.specs.Sight.{AText, ABody, ATask, AUsers, InRoot, SeesText, TextOf, ToControl, faced, known_text, Active, Allowed, AnAttr, AnEmpty, AnOpen, AnOptions, AttrOf, BodyOf, ByBody, ByControl, ByNode, ByParent, BySeat, Child, Could, CouldServe, EmptyOf, GidOfRight, GidOfTask, HasGid, HasUid, Holds, IsGone, IsOpen, Knows, MaySend, OfControl, OfNode, OfSeat, OpenOf, OptionsOf, Owns, OwnsIt, Part, Pending, SameView, Seen, Sees, SeesBody, SeesEmpty, Sends, ServerRoot, Taken, Target, TaskOf, ToPut, ToRead, ToSearch, UidOfRight, UidOfTask, UsersOf, Way, bare, holders, is_on, part, tells, users, uses_server}
+pub use Rattle.hurd_machine.specs.Sight.{AText, ABody, AnEnds, EndsOf, SeesInside, ATask, AUsers, InRoot, SeesText, TextOf, ToControl, faced, known_text, Active, Allowed, AnAttr, AnEmpty, AnOpen, AnOptions, AttrOf, BodyOf, ByBody, ByControl, ByNode, ByParent, BySeat, Child, Could, CouldServe, EmptyOf, GidOfRight, GidOfTask, HasGid, HasUid, Holds, IsGone, IsOpen, Knows, MaySend, OfControl, OfNode, OfSeat, OpenOf, OptionsOf, Owns, OwnsIt, Part, Pending, SameView, Seen, Sees, SeesBody, SeesEmpty, Sends, ServerRoot, Taken, Target, TaskOf, ToPut, ToRead, ToSearch, UidOfRight, UidOfTask, UsersOf, Way, bare, holders, is_on, part, tells, users, uses_server}
 pub use Rattle.hurd_machine.specs.Sound.{Above, AreDistinct, AreFilled, AreSeated, AreTables, AtRest, AtRoot, Below, CanBeAt, CanBeWritten, Coherent, Hangs, HasDistinctNames, IsFilled, IsGivenRight, LeadsUp, Linked, Sound, times_in}
 unfoldable pub use Rattle.hurd_machine.specs.Sound.{times_listed}
 pub use Rattle.hurd_machine.specs.Touched.{Nothing, OnDid, OnDrop, OnRight}
 unfoldable pub use Rattle.hurd_machine.specs.Touched.{asked_parts}
-pub use Rattle.hurd_machine.specs.World.{IsAmong, World, active_at, asked_at, body_at, boot_root, counts_at, gives_text, header_at, home_at, info_at, is_of, is_removed, is_server_root, leads_on, links_at, lists, lists_at, makes_at, node_at, only_reads, open_at, ports_of, renames_at, server_at, sets_attrs_at, shape_at, shape_by, site_at, stream_at, targets_at, targets_in, task_at, words_at, words_in, world_from}
+pub use Rattle.hurd_machine.specs.World.{IsAmong, World, active_at, asked_at, body_at, boot_root, counts_at, ends_at, gives_text, header_at, home_at, info_at, is_of, is_removed, is_server_root, leads_on, links_at, lists, lists_at, makes_at, node_at, only_reads, open_at, ports_of, renames_at, server_at, sets_attrs_at, shape_at, shape_by, site_at, stream_at, targets_at, targets_in, task_at, words_at, words_in, world_from}

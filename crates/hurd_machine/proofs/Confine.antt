@@ -1,6 +1,6 @@
 -- What S sees in a world that stays inside what it saw: parts that it saw, and new things of its own tasks.
 use Rattle.std.proofs.Common.{true≢false, ◌≡◌, ◌⊎◌, ℕ, ◌≤◌, Bool, true, List, Some, sym, refl, ◌∙◌, subst, inl, inr, arith, false, Option, None}
-use Rattle.hurd_machine.proofs.Common.{Active, Allowed, AttrOf, Below, BodyOf, ByBody, ByControl, ByNode, ByParent, BySeat, Child, Coherent, Control, Could, CouldServe, Dir, EmptyOf, Exec, GidOfRight, GidOfTask, HasGid, HasUid, Header, Holds, Io, IoRight, IsAmong, IsOpen, Knows, MaySend, Name, OfControl, OfNode, OfSeat, OpenFlags, OpenOf, Opened, OptionsOf, Owns, OwnsIt, Part, Pending, READ, Read, Right, Seen, Sees, SeesBody, SeesEmpty, Sends, ServerInfo, ServerRoot, Start, Taken, Target, Task, TaskOf, TextOf, SeesText, ToControl, InRoot, ToPut, ToRead, ToSearch, UidOfRight, UidOfTask, UsersOf, WRITE, Want, Way, World, Write, active_at, asks, body_at, boot_root, counts_at, counts_by, counts_opens, entry_of, header_at, home_at, info_in, open_at, server_at, task_at, tells, with_text}
+use Rattle.hurd_machine.proofs.Common.{Active, Allowed, AttrOf, Below, BodyOf, ByBody, ByControl, ByNode, ByParent, BySeat, Child, Coherent, Control, Could, CouldServe, Dir, EmptyOf, Exec, GidOfRight, GidOfTask, HasGid, HasUid, Header, Holds, Io, IoRight, IsAmong, IsOpen, Knows, MaySend, Name, OfControl, OfNode, OfSeat, OpenFlags, OpenOf, Opened, OptionsOf, Owns, OwnsIt, Part, Pending, READ, Read, Right, Seen, Sees, SeesBody, SeesEmpty, Sends, ServerInfo, ServerRoot, Start, Taken, Target, Task, TaskOf, TextOf, SeesText, ToControl, InRoot, ToPut, ToRead, ToSearch, UidOfRight, UidOfTask, UsersOf, WRITE, Want, Way, World, Write, active_at, asks, body_at, boot_root, counts_at, counts_by, counts_opens, entry_of, header_at, home_at, info_in, open_at, server_at, task_at, tells, with_text, EndsOf}
 use Rattle.hurd_ports.specs.Tables.{nodes_of as nodes_named}
 use Rattle.hurd_machine.specs.Sight.{Root, Held, Controlled, Parent}
 use Rattle.hurd_machine.proofs.Coherence.{header_old, entry_old, home_old, right_old, entry_lists, home_server, seat_there}
@@ -32,6 +32,7 @@ abbrev pub NewPart : (ℕ → Bool) → World → Part → Type 0
 NewPart S v (AttrOf n) = NewTo S v n
 NewPart S v (EmptyOf n) = NewTo S v n
 NewPart S v (BodyOf n) = NewTo S v n
+NewPart S v (EndsOf n) = NewTo S v n
 NewPart S v (OpenOf o) = NewTo S v o
 NewPart S v (OptionsOf s) = NewTo S v s
 NewPart S v (TextOf s) = NewTo S v s
@@ -339,6 +340,10 @@ module _ {S : ℕ → Bool} {v x : World} (coherent : Coherent v) (i : Inside S 
   ]
   sees_inside (BodyOf n) s = elim (seen_inside n s.0) [
     | inl sn ↦ let l = header_before n s.1 s.2 sn in inl (sn, l.0, l.1, body_inside n s.1 l.0 l.1 l.2 s.3)
+    | inr new ↦ inr new
+  ]
+  sees_inside (EndsOf n) s = elim (seen_inside n s.1.0) [
+    | inl sn ↦ let l = header_before n s.1.1 s.1.2 sn in inl (counts_inside n l.0 l.1 s.0, (sn, l.0, l.1, body_inside n s.1.1 l.0 l.1 l.2 s.1.3))
     | inr new ↦ inr new
   ]
   sees_inside (OpenOf o) s = elim (i.held (Io s.0) s.1).opened [

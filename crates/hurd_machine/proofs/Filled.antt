@@ -2,13 +2,13 @@
 use Rattle.std.proofs.Common.{◌≡◌, ◌≢◌, ℕ, true, true≢false, List, [], ◌∷◌, ◌++◌, Option, Some, None, sym, refl, ◌∙◌, ap, ap₂, subst, inl, inr}
 use Rattle.std.specs.Prelude.{Ok}
 use Rattle.std.specs.Option.{option_map}
-use Rattle.hurd_machine.proofs.Common.{AreFilled, Body, Change, Coherent, Did, EditBody, EditHeader, EditOpen, EditTask, GoodBehaviour, Header, IsFilled, MakeNode, MakeOpen, Name, Node, Question, Send, ServerInfo, Settle, World, apply, apply_all, asked_at, asked_of, changes_of, counts_at, counts_by, edit, edit_bytes, edit_size, edits_of, get, info_at, info_in, new_site, on_bytes, server_at, stays, tree_by, with_body, with_entry, with_header, with_size, without_entry}
+use Rattle.hurd_machine.proofs.Common.{AreFilled, Body, Change, Coherent, Did, EditBody, EditHeader, EditOpen, EditTask, GoodBehaviour, Header, IsFilled, MakeNode, MakeOpen, Name, Node, Question, Send, ServerInfo, Settle, World, apply, apply_all, asked_at, asked_of, changes_of, counts_at, counts_by, edit, edit_bytes, edit_size, edits_of, get, info_at, info_in, new_site, on_bytes, server_at, stays, tree_by, with_body, with_entry, with_header, with_size, without_entry, LetGo}
 use Rattle.hurd_nodes.proofs.Sites.{home-here, home-apart}
 use Rattle.hurd_creds.proofs.NameLaws.{same_or_apart, edit_here, edit_apart}
 use Rattle.hurd_trans_iface.specs.Behaviour.{bytes_left, size_left}
 use Rattle.hurd_trans_iface.specs.Good.{KeepsSizes}
 use Rattle.hurd_trans_iface.specs.Bodies.{MayHold, MayHave}
-use Rattle.hurd_trans_iface.proofs.BodyLaws.{KeepsBody, have_as, less_holds, size_has, tree_holds}
+use Rattle.hurd_trans_iface.proofs.BodyLaws.{KeepsBody, have_as, less_holds, size_has, tree_holds, tree_has}
 use Rattle.hurd_trans_iface.specs.Kinds.{ServerKind, behaviour_of}
 use Rattle.hurd_machine.specs.World.{nodes_of}
 use Rattle.hurd_machine.proofs.Stays.{sweep, info_still}
@@ -16,7 +16,7 @@ use Rattle.hurd_machine.proofs.Sweeps.{settle_by}
 use Rattle.hurd_machine.proofs.Nodes.{edited_from}
 use Rattle.hurd_machine.proofs.Coherence.{was}
 use Rattle.hurd_machine.proofs.Keeping.{apply_all-append}
-use Rattle.hurd_machine.proofs.Retained.{was_retained}
+use Rattle.hurd_creds.proofs.Retained.{was_retained}
 
 -- a list of changes that keeps sizes right
 abbrev pub KeepsFilled : World → List Change → Type 0
@@ -34,6 +34,7 @@ IsFit o x = (i : ServerInfo) → o ≡ Some i → IsFilled i x
 abbrev pub IsOfPorts : Change → Type 0
 IsOfPorts (EditOpen o f) = Unit {0}
 IsOfPorts (MakeOpen o z) = Unit {0}
+IsOfPorts (LetGo o) = Unit {0}
 IsOfPorts (EditTask q f) = Unit {0}
 IsOfPorts (Send r q) = Unit {0}
 IsOfPorts c = ⊥
@@ -45,6 +46,7 @@ AreOfPorts (c ∷ cs) = IsOfPorts c × AreOfPorts cs
 ports_one : (c : Change) (w : World) → IsOfPorts c → nodes_of (apply c w) ≡ nodes_of w
 ports_one (EditOpen o f) w p = refl
 ports_one (MakeOpen o z) w p = refl
+ports_one (LetGo o) w p = refl
 ports_one (EditTask q f) w p = refl
 ports_one (Send r q) w p = refl
 ports_one c w p = absurd p
@@ -59,7 +61,7 @@ filled_ports cs w p sized = subst AreFilled (sym (nodes-ports cs w p)) sized
 
 -- what is left once a world is settled is as it was
 pub filled_settle : (w : World) → KeepsFilled w (Settle ∷ [])
-filled_settle w sized = settle_by (λ x. AreFilled (nodes_of x)) each (λ x s. s) w sized
+filled_settle w sized = settle_by (λ x. AreFilled (nodes_of x)) each w sized
   where
     each : (x : World) → AreFilled (nodes_of x) → AreFilled (nodes_of (sweep x))
     each x s n y i e ei = let l = was_retained x.nodes (stays x) n y e in s n y i l.0 (sym (info_still x n l.1) ∙ ei)
@@ -135,16 +137,13 @@ did_filled q keeps w c n d told sized = filled_left w n d.bytes d.size fit sized
 abbrev pub KeepsHeader : World → Name → (Header → Header) → Type 0
 KeepsHeader w n f = (i : ServerInfo) (h : Header) → info_at w n ≡ Some i → MayHave i.kind h → MayHave i.kind (f h)
 
--- which it does if it sets none of what few nodes may have; or if it sets links and words in a tree; or counts where opens are counted
+-- which it does if it sets no links and no words; or in a tree
 
-pub keeps_header : (w : World) (n : Name) (f : Header → Header) → ((h : Header) → ((f h).readers ≡ h.readers) × ((f h).writers ≡ h.writers) × ((f h).links ≡ h.links) × ((f h).passive ≡ h.passive)) → KeepsHeader w n f
-keeps_header w n f same i h known may = have_as i.kind h (f h) (λ none. ((same h).0, (same h).1)) (λ none. ((same h).2, (same h).3)) may
+pub keeps_header : (w : World) (n : Name) (f : Header → Header) → ((h : Header) → ((f h).links ≡ h.links) × ((f h).passive ≡ h.passive)) → KeepsHeader w n f
+keeps_header w n f same i h known = have_as i.kind h (f h) (λ none. same h)
 
-pub tree_header : (w : World) (n : Name) (f : Header → Header) → tree_by (info_at w n) ≡ true → ((h : Header) → ((f h).readers ≡ h.readers) × ((f h).writers ≡ h.writers)) → KeepsHeader w n f
-tree_header w n f tree same i h known may = have_as i.kind h (f h) (λ none. same h) (λ none. absurd (true≢false (sym tree ∙ ap tree_by known ∙ none))) may
-
-pub counts_header : (w : World) (n : Name) (f : Header → Header) → counts_at w n ≡ true → ((h : Header) → ((f h).links ≡ h.links) × ((f h).passive ≡ h.passive)) → KeepsHeader w n f
-counts_header w n f counts same i h known may = have_as i.kind h (f h) (λ none. absurd (true≢false (sym counts ∙ ap counts_by known ∙ none))) (λ none. same h) may
+pub tree_header : (w : World) (n : Name) (f : Header → Header) → tree_by (info_at w n) ≡ true → KeepsHeader w n f
+tree_header w n f tree i h known may = tree_has i.kind (f h) (sym (ap tree_by known) ∙ tree)
 
 -- a header changed so, but not its size
 pub filled_header : (w : World) (n : Name) (f : Header → Header) → ((h : Header) → (f h).size ≡ h.size) → KeepsHeader w n f → KeepsFilled w (EditHeader n f ∷ [])

@@ -1,8 +1,8 @@
 -- What changes leave as it was.
-use Rattle.std.proofs.Common.{◌≡◌, ◌≢◌, ◌⊎◌, ℕ, Bool, false, List, [], ◌∷◌, ◌++◌, Option, Some, None, length, sym, refl, ◌∙◌, ap, ap₂, subst, inl, inr, arith}
+use Rattle.std.proofs.Common.{◌≡◌, ◌≢◌, ◌⊎◌, ℕ, Bool, false, List, [], ◌∷◌, ◌++◌, Option, Some, None, length, sym, refl, ◌∙◌, ap, ap₂, subst, inl, inr, arith, true}
 use Rattle.std.specs.Option.{option_map}
 use Rattle.hurd_nodes.proofs.Sites.{home-apart}
-use Rattle.hurd_machine.proofs.Common.{ABody, ATask, AUsers, AnEmpty, AnOpen, AnOptions, AtRest, Attach, AttrOf, Below, BodyOf, Change, Coherent, Control, DropServer, EditBody, EditHeader, EditOpen, EditTask, EmptyOf, Io, IsGone, MakeNode, MakeOpen, Name, NameMap, OpenOf, OptionsOf, Part, Right, Sees, Send, ServerInfo, SetText, Settle, Sound, Start, Task, TaskOf, TextOf, AText, faced, Unseat, UsersOf, World, apply, apply_all, body_at, count_list, edit, header_at, holders, home_at, is_empty_dir, is_on, names_open, new_site, one_if, open_at, part, rights_of, server_at, site_at, task_at, users, with_body, with_header, with_sent, with_text}
+use Rattle.hurd_machine.proofs.Common.{ABody, ATask, AUsers, AnEmpty, AnOpen, AnOptions, Attach, AttrOf, Below, BodyOf, Change, Coherent, Control, DropServer, EditBody, EditHeader, EditOpen, EditTask, EmptyOf, Io, IsGone, LetGo, MakeNode, MakeOpen, Name, NameMap, OpenOf, Opened, OptionsOf, Part, Right, Sees, Send, ServerInfo, SetText, Settle, Sound, Start, Task, TaskOf, TextOf, AText, faced, Unseat, UsersOf, World, apply, apply_all, body_at, count_list, counts_at, counts_by, edit, ends_at, ends_of, header_at, holders, home_at, info_in, is_empty_dir, is_on, names_open, new_site, one_if, open_at, part, rights_of, server_at, site_at, task_at, users, with_body, with_header, with_sent, with_text, EndsOf, AnEnds}
 use Rattle.hurd_creds.proofs.NameLaws.{same_name-apart, get_apart, same_or_apart, edit_here, edit_apart as edit_other}
 use Rattle.hurd_machine.proofs.Faces.{face_in, text_in}
 use Rattle.hurd_ports.specs.Steps.{named}
@@ -10,7 +10,7 @@ use Rattle.hurd_ports.proofs.TaskLaws.{edit-apart, edit-length}
 use Rattle.hurd_machine.specs.Change.{settle, next_nodes, next_sites, next_opens, next_tasks}
 use Rattle.hurd_machine.proofs.Nodes.{attr_same, header_in, body_in, empty_in, header-with_body, body-with_header, edit_keeps, KeepsEmptiness, empty-kept}
 use Rattle.hurd_machine.proofs.Tasks.{count_edit, count_named, count_sent}
-use Rattle.hurd_machine.proofs.Coherence.{next_not, Proper, AllProper}
+use Rattle.hurd_machine.proofs.Coherence.{next_not, no_home, no_open, settled_apart, Proper, AllProper}
 use Rattle.hurd_machine.proofs.Keeping.{coherent_one}
 use Rattle.hurd_machine.proofs.Views.{Agree, Agree-trans}
 use Rattle.hurd_machine.specs.Touched.{Goes}
@@ -18,6 +18,7 @@ use Rattle.hurd_machine.proofs.Comes.{attach_is}
 use Rattle.hurd_machine.proofs.Sites.{not_home}
 use Rattle.hurd_machine.proofs.ServerParts.{users_named, come_parts, drop_parts, unseated_parts}
 use Rattle.hurd_machine.proofs.Settle.{AsBefore, settle_part, settle_agrees}
+use Rattle.hurd_machine.proofs.Ends.{counts_text, ends_by, ends_edited, ends_let_go_apart, ends_made_apart, made_uncounted}
 
 -- of a task z in place of x, as many rights name each open, and are on each server's nodes, but for those of T
 pub record Moved (T : Part → Type 0) (w : World) (x z : Task) : Type 0 where
@@ -36,10 +37,11 @@ Within T w (EditHeader n f) = T (AttrOf n)
 Within T w (EditBody n g) = T (BodyOf n) × (T (EmptyOf n) ⊎ KeepsEmptiness g)
 Within T w (MakeNode n s node) = T (TaskOf n.task.0) × T (AttrOf n) × T (EmptyOf n) × T (BodyOf n)
 Within T w (EditOpen o f) = T (OpenOf o)
-Within T w (MakeOpen o z) = T (TaskOf o.task.0) × T (OpenOf o)
+Within T w (MakeOpen o z) = T (TaskOf o.task.0) × T (OpenOf o) × (counts_at w z.node ≡ true → T (EndsOf z.node))
+Within T w (LetGo o) = T (OpenOf o) × ((z : Opened) → open_at w o ≡ Some z → counts_at w z.node ≡ true → T (EndsOf z.node))
 Within T w (EditTask q f) = T (TaskOf q) × ((x : Task) → task_at w q ≡ Some x → Moved T w x (f x))
 Within T w (Send r q) = T (TaskOf q) × Covers T w r
-Within T w (Attach s at i node) = T (TaskOf s.task.0) × T (AttrOf i.root) × T (EmptyOf i.root) × T (BodyOf i.root) × T (AttrOf at) × T (OptionsOf s) × T (TextOf s)
+Within T w (Attach s at i node) = T (TaskOf s.task.0) × T (AttrOf i.root) × T (EmptyOf i.root) × T (BodyOf i.root) × T (EndsOf i.root) × T (AttrOf at) × T (OptionsOf s) × T (TextOf s)
 Within T w (DropServer s) = (p : Part) → Goes w s p → T p
 Within T w (Unseat n) = T (AttrOf n)
 Within T w (SetText s text) = T (TextOf s) × ((i : ServerInfo) → server_at w s ≡ Some i → faced (with_text text i) ≡ faced i)
@@ -58,6 +60,7 @@ abbrev pub IsUnnamed : World → Part → Type 0
 IsUnnamed w (AttrOf n) = Below w n → ⊥
 IsUnnamed w (EmptyOf n) = Below w n → ⊥
 IsUnnamed w (BodyOf n) = Below w n → ⊥
+IsUnnamed w (EndsOf n) = Below w n → ⊥
 IsUnnamed w (OpenOf o) = Below w o → ⊥
 IsUnnamed w (OptionsOf s) = Below w s → ⊥
 IsUnnamed w (TextOf s) = Below w s → ⊥
@@ -92,7 +95,7 @@ next_world c w = record {
   nodes = next_nodes c w.nodes;
   sites = next_sites c w.sites;
   servers = next_servers c w.servers;
-  opens = next_opens c w.opens;
+  opens = next_opens c w.tasks w.opens;
   tasks = next_tasks c w.tasks;
 }
 
@@ -133,6 +136,27 @@ module _ (w : World) (coherent : Coherent w) (T : Part → Type 0) where
   body_kept (MakeNode k s node) n i h = ap body_in (get_apart w.nodes k node n (λ e. avoids (BodyOf n) (BodyOf k) i.3 h (ap BodyOf e)))
   body_kept c n i h = refl
 
+  counts_kept : (c : Change) → Proper w c → (n : Name) → counts_at (next_world c w) n ≡ counts_at w n
+  counts_kept (MakeNode k s node) p n = elim (same_or_apart n k) [
+    | inl same ↦ rw same (made_uncounted w k s node p.1 ∙ sym (ap (λ o. counts_by (info_in w.servers o)) (no_home coherent k (next_not w k p.0))))
+    | inr apart ↦ ap (λ o. counts_by (info_in w.servers o)) (home-apart w.sites k (new_site s) n apart)
+  ]
+  counts_kept (SetText q text) p n = counts_text w.servers q text (home_at w n)
+  counts_kept c p n = refl
+
+  -- an open of a node whose server is told is of another one
+  not_of : (n m : Name) → (T (EndsOf n) → ⊥) → counts_at w n ≡ true → (counts_at w m ≡ true → T (EndsOf m)) → m ≢ n
+  not_of n m h counts told e = h (subst (λ q. T (EndsOf q)) e (told (ap (counts_at w) e ∙ counts)))
+
+  ends_kept : (c : Change) → Proper w c → (n : Name) → Within T w c → (T (EndsOf n) → ⊥) → ends_at (next_world c w) n ≡ ends_at w n
+  ends_kept c p n i h = ends_by w (next_world c w) n (counts_kept c p n) (opens c p i)
+    where
+      opens : (c : Change) → Proper w c → Within T w c → counts_at w n ≡ true → ends_of (next_world c w).opens n ≡ ends_of w.opens n
+      opens (EditOpen o f) p i counts = ends_edited w.opens n o f p
+      opens (MakeOpen o z) p i counts = ends_made_apart w.opens n o z (no_open coherent o (next_not w o p.0)) (not_of n z.node h counts i.2)
+      opens (LetGo o) p i counts = ends_let_go_apart w.opens n w.tasks o (λ z is. not_of n z.node h counts (i.1 z is))
+      opens c p i counts = refl
+
   empty_kept : (c : Change) → (n : Name) → Within T w c → (T (EmptyOf n) → ⊥) → option_map is_empty_dir (body_at (next_world c w) n) ≡ option_map is_empty_dir (body_at w n)
   empty_kept (EditHeader k f) n i h = edit_keeps empty_in (with_header f) (λ o. ap (option_map is_empty_dir) (body-with_header f o)) w.nodes k n
   empty_kept (EditBody k g) n i h = elim i.1 [
@@ -144,6 +168,7 @@ module _ (w : World) (coherent : Coherent w) (T : Part → Type 0) where
 
   open_kept : (c : Change) → (o : Name) → Within T w c → (T (OpenOf o) → ⊥) → open_at (next_world c w) o ≡ open_at w o
   open_kept (EditOpen k f) o i h = edit_other w.opens k f o (λ e. avoids (OpenOf o) (OpenOf k) i h (ap OpenOf e))
+  open_kept (LetGo k) o i h = settled_apart w.tasks w.opens k o (λ e. avoids (OpenOf o) (OpenOf k) i.0 h (ap OpenOf e))
   open_kept (MakeOpen k z) o i h = get_apart w.opens k z o (λ e. avoids (OpenOf o) (OpenOf k) i.1 h (ap OpenOf e))
   open_kept c o i h = refl
 
@@ -204,6 +229,7 @@ module _ (w : World) (coherent : Coherent w) (T : Part → Type 0) where
   next_frame c pr (AttrOf n) i h = attr_same (header_kept c n i h) (site_kept c n i h)
   next_frame c pr (EmptyOf n) i h = ap AnEmpty (empty_kept c n i h)
   next_frame c pr (BodyOf n) i h = ap ABody (body_kept c n i h)
+  next_frame c pr (EndsOf n) i h = ap AnEnds (ends_kept c pr n i h)
   next_frame c pr (OpenOf o) i h = ap₂ AnOpen (open_kept c o i h) (holders_kept c pr o i h)
   next_frame c pr (OptionsOf s) i h = ap AnOptions (face_kept c s i)
   next_frame c pr (TextOf s) i h = ap AText (text_kept c s i h)
@@ -215,7 +241,7 @@ pub frame : (T : Part → Type 0) (w : World) → Coherent w → (c : Change) �
 frame T w c (Attach s at i node) ex pr p within out =
     ap (λ x. part x p) (attach_is w s at i node c (next_not w s pr.next))
     ∙ come_parts w c s at i node pr p (λ e. out (subst T (sym e) within.0)) (λ e. out (subst T (sym e) within.1)) (λ e. out (subst T (sym e) within.2)) (λ e. out (subst T (sym e) within.3))
-    (λ e. out (subst T (sym e) within.4)) (λ e. out (subst T (sym e) within.5)) (λ e. out (subst T (sym e) within.6))
+    (λ e. out (subst T (sym e) within.4)) (λ e. out (subst T (sym e) within.5)) (λ e. out (subst T (sym e) within.6)) (λ e. out (subst T (sym e) within.7))
 frame T w c (DropServer s) ex pr p within out = drop_parts w s p (λ goes. out (within p goes))
 frame T w c (Unseat n) ex pr p within out = unseated_parts w n p (λ e. out (subst T (sym e) within))
 frame T w c Settle ex pr p within out = absurd ex
@@ -229,22 +255,22 @@ gone_kept x y (TaskOf t) e gone = absurd gone
 gone_kept x y p e gone = e ∙ gone
 
 -- changes one after another, settling among them: what they don't write, and what a settled world has, stays as that has it, or goes
-pub frame_from : (T : Part → Type 0) (p : Part) → (T p → ⊥) → (w : World) → AtRest w → (cs : List Change) (x : World) → Coherent x → AllProper x cs → AllWithin T x cs
+pub frame_from : (T : Part → Type 0) (p : Part) → (T p → ⊥) → (w : World) → (cs : List Change) (x : World) → Coherent x → AllProper x cs → AllWithin T x cs
     → AsBefore w x p → AsBefore w (apply_all cs x) p
-frame_from T p out w rest [] x c pr i e = e
-frame_from T p out w rest (Settle ∷ cs) x c pr i e =
+frame_from T p out w [] x c pr i e = e
+frame_from T p out w (Settle ∷ cs) x c pr i e =
     let next : Coherent (settle x) = coherent_one Settle x c pr.0 in
-    frame_from T p out w rest cs (settle x) next (pr.1 next) i.1 (settle_part w rest p x c pr.0 e)
-frame_from T p out w rest (k ∷ cs) x c pr i e =
+    frame_from T p out w cs (settle x) next (pr.1 next) i.1 (settle_part w p x c pr.0 e)
+frame_from T p out w (k ∷ cs) x c pr i e =
     let next : Coherent (apply k x) = coherent_one k x c pr.0 in
     let kept : part (apply k x) p ≡ part x p = frame T x c k tt pr.0 p i.0 out in
-    frame_from T p out w rest cs (apply k x) next (pr.1 next) i.1 (elim e [ inl same ↦ inl (kept ∙ same) | inr gone ↦ inr (gone_kept x (apply k x) p kept gone) ])
+    frame_from T p out w cs (apply k x) next (pr.1 next) i.1 (elim e [ inl same ↦ inl (kept ∙ same) | inr gone ↦ inr (gone_kept x (apply k x) p kept gone) ])
 
 -- what a call of task t doesn't touch, and what was there before, stays or goes
 pub untouched : (T : Part → Type 0) (w : World) (t : ℕ) (cs : List Change) (p : Part) → Sound w → AllProper w cs → AllWithin (Full w t T) w cs
     → (T p → ⊥) → p ≢ TaskOf t → (IsUnnamed w p → ⊥) → AsBefore w (apply_all cs w) p
 untouched T w t cs p s pr i out other old =
-    frame_from (Full w t T) p (λ k. elim k [ inl h ↦ out h | inr h ↦ elim h [ inl e ↦ other e | inr new ↦ old new ] ]) w s.settled cs w s.coherent pr i (inl refl)
+    frame_from (Full w t T) p (λ k. elim k [ inl h ↦ out h | inr h ↦ elim h [ inl e ↦ other e | inr new ↦ old new ] ]) w cs w s.coherent pr i (inl refl)
 
 -- no change makes a task or takes one out
 pub length_one : (c : Change) (w : World) → length (apply c w).tasks ≡ length w.tasks

@@ -2,10 +2,8 @@ pub mod Common
 pub mod Tasks
 pub mod Nodes
 pub mod Faces
-pub mod Retained
 pub mod Sites
 pub mod Holders
-pub mod Sums
 pub mod Listed
 pub mod Stays
 pub mod Sweeps
@@ -16,6 +14,8 @@ pub mod Comes
 pub mod Unseated
 pub mod Texts
 pub mod Keeping
+pub mod Held
+pub mod Ends
 pub mod ServerParts
 pub mod Rights
 pub mod Views
@@ -44,8 +44,6 @@ pub mod Attrs
 pub mod Retexting
 pub mod Makes
 pub mod Shapes
-pub mod Counting
-pub mod OpenCounts
 pub mod Nameless
 pub mod Left
 pub mod Linking

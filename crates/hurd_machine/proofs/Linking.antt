@@ -110,10 +110,11 @@ module _ (d : Name) (name : List ℕ) (n : Name) where
   link_whole good {t} {T} {w} s m up body empty attr seen =
       let grown : World = apply (EditBody d (with_entry name n)) w in
       let listing = listing_of m.node.header m.node.body (s.coherent.tree.shapes d m.node m.is_node) m.dir in
-      quiet linking (tt, (linked_entered, tt)) (tt, λ one. (λ h. (refl, refl), λ two. tt)) s (record {
+      quiet linking (tt, (linked_entered, tt)) s (record {
         within = ((body, inl empty), (attr, tt));
         proper = link_proper w s.coherent m;
         linked = again_linked w d n name linked m.node listing.0 m.file.header m.is_node listing.1 (ap header_in m.is_file) m.no_dir up (λ h. (refl, refl)) refl s.linked;
-        filled = filled_append added counted w (filled_entry good w d name n m.tree) (filled_header grown n linked (λ h. refl) (tree_header grown n linked (ap (λ o. tree_by (info_in w.servers o)) m.kin ∙ m.tree) (λ h. (refl, refl)))) s.filled;
+        filled = filled_append added counted w (filled_entry good w d name n m.tree) (filled_header grown n linked (λ h. refl) (tree_header grown n linked (ap (λ o. tree_by (info_in w.servers o)) m.kin ∙ m.tree))) s.filled;
+        held = s.settled.opens;
         may = λ S ours. (entry_may S w w d name n (inl (seen S ours)), (λ h at. linked_less S w h, tt));
       })

@@ -7,7 +7,7 @@ use Rattle.hurd_nodes.proofs.Sites.{home-here, home-apart}
 use Rattle.hurd_creds.proofs.NameLaws.{equal_if_same, get_here, get_apart, same_or_apart}
 use Rattle.hurd_trans_iface.specs.Nodes.{Entry}
 use Rattle.hurd_trans_iface.specs.Answers.{node_of_kind}
-use Rattle.hurd_trans_iface.proofs.BodyLaws.{made_has, tree_holds}
+use Rattle.hurd_trans_iface.proofs.BodyLaws.{tree_has, tree_holds}
 use Rattle.hurd_trans_iface.specs.Kinds.{ServerKind, behaviour_of}
 use Rattle.hurd_nodes.specs.Shown.{made_by}
 use Rattle.hurd_ports.specs.Steps.{named}
@@ -15,7 +15,6 @@ use Rattle.hurd_machine.specs.World.{nodes_of}
 use Rattle.hurd_machine.proofs.Nodes.{header_in, body_in, header-with_body, body-with_body, edit_keeps, edit_reads}
 use Rattle.hurd_machine.proofs.Tasks.{edit_here}
 use Rattle.hurd_machine.proofs.Coherence.{IsNext, IsEntry, GoodNode, HasNoEntries, Proper, AllProper, home_old, no_node, no_home, entry_stands, next_not, next_apart, named_below, home_server, none_if}
-use Rattle.hurd_machine.proofs.Settle.{rests_quiet}
 use Rattle.hurd_machine.proofs.Frame.{Full}
 use Rattle.hurd_machine.proofs.Confine.{SeenOrNew}
 use Rattle.hurd_machine.proofs.Permits.{entry_may, later_new, entry_added}
@@ -23,7 +22,8 @@ use Rattle.hurd_machine.proofs.Filled.{filled_made, filled_entry}
 use Rattle.hurd_machine.proofs.Listed.{times_edited}
 use Rattle.hurd_machine.proofs.Links.{IsHung, HangsIn, Loosens, KeepsLinked, loosened, loose_any, tied, leads_grown, named_grown, times_new, times_entered, lists_entered, listing_of, relisted_entry, hung_as, lists_alike, times_apart}
 use Rattle.hurd_machine.proofs.Opens.{own_task, fresh_new, fresh_next}
-use Rattle.hurd_machine.proofs.Piece.{Whole, stands, resting}
+use Rattle.hurd_machine.proofs.Held.{held_all}
+use Rattle.hurd_machine.proofs.Piece.{Whole, quiet}
 use Rattle.hurd_nodes.proofs.PartLaws.{same_bool}
 use Rattle.std.proofs.lemmas.Slice.Eq.{bytes_eq-Decides}
 use Rattle.hurd_machine.proofs.Stays.{root_why}
@@ -150,7 +150,7 @@ module _ (d : Name) (name : List ℕ) (new : NewNode) (x : Node) (is : made_node
 
   -- and it has the size that its server says, and in it and its header what may be there
   made_fit : ((k : ServerKind) → GoodBehaviour (behaviour_of k)) → (i : ServerInfo) → keeps_tree i.kind ≡ true → IsFilled i x
-  made_fit good i tree = ((good i.kind).newborn tree i.text d (Some name) new x is, tree_holds i.kind x.body tree, made_has i.kind tree d (Some name) new x is)
+  made_fit good i tree = ((good i.kind).newborn tree i.text d (Some name) new x is, tree_holds i.kind x.body tree, tree_has i.kind x.header tree)
 
 -- the node, and its entry
 abbrev pub entered : Name → Name → Node → Name → List ℕ → List Change
@@ -263,18 +263,19 @@ pub entered_whole : ((k : ServerKind) → GoodBehaviour (behaviour_of k)) → {T
     → LeadsUp (nodes_of w) d → (new : NewNode) (node : Node) → made_node d (Some name) new ≡ Some node → is_entered node.header ≡ true → HangsIn d node → T (BodyOf d) → T (EmptyOf d) → ((S : ℕ → Bool) → S t ≡ true → Seen S w d)
     → Whole t (Full w t T) w w (entered (fresh t x) s node d name)
 entered_whole good {T} {w} st t x is s d home {kind} name m up new node made_is is_in hangs body empty seen =
-    resting (entered n s node d name) (tt, λ one. (tt, λ two. tt)) (stands st) (record {
+    quiet (entered n s node d name) ((is_in, no_home c n still, m.info, is_server), (tt, tt)) st (record {
       within = ((own_task w t T, inr (inr still), inr (inr still), inr (inr still)), ((inl body, inl (inl empty)), tt));
       proper = entered_proper w n s node d name c next home (ap tree_by m.is_info ∙ m.tree) (absent w d name kind m) ready;
       linked = entered_linked w n s node d name c next m up ready.empty hangs st.linked;
       filled =
           filled_entry good (made w n s node d name) d name n (ap (λ o. tree_by (info_in w.servers o)) (home-apart w.sites n (new_site s) d (next_apart w n d next (home_old c d s home))) ∙ (ap tree_by m.is_info ∙ m.tree))
           (filled_made w n s node (λ i e. let same : m.info ≡ i = cc (is_server, e) in rw (← same) (made_fit d name new node made_is good m.info m.tree)) st.filled);
+      held = held_all (entered n s node d name) w (tt, (tt, tt)) st.settled.opens;
       may = λ S ours. (
         (ours, inl (OfNode d (seen S ours) home), λ p e. subst (SeenOrNew S w) (sym (made_parent d name new node made_is p e)) (inl (seen S ours))),
         (entry_may S w (made w n s node d name) d name n (inr (later_new S w t x x.made ours is (omega arith))), tt),
       );
-    }) (rests_quiet (entered n s node d name) w ((is_in, no_home c n still, m.info, is_server), (tt, tt)) st.settled)
+    })
   where
     c : Coherent w
     c = st.coherent

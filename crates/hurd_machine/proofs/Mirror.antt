@@ -1,17 +1,19 @@
 -- The same change of a task of S in two worlds that are alike for S: they are alike afterwards.
-use Rattle.std.proofs.Common.{◌≡◌, ◌⊎◌, ℕ, Bool, true, List, Some, length, sym, refl, ◌∙◌, ap, ap₂, subst, inl, inr, arith}
+use Rattle.std.proofs.Common.{◌≡◌, ◌⊎◌, ℕ, Bool, true, true≢false, List, Some, length, nat_lt, sym, refl, ◌∙◌, ap, ap₂, subst, inl, inr, arith}
 use Rattle.std.specs.Option.{option_map}
 use Rattle.hurd_machine.proofs.Faces.{face_in, text_in, face-with_text, text-with_text}
-use Rattle.hurd_machine.proofs.Common.{ABody, ATask, AUsers, AnEmpty, AnOpen, AnOptions, Attach, AttrOf, BodyOf, Change, Coherent, Control, DropServer, EditBody, EditHeader, EditOpen, EditTask, EmptyOf, Io, IsAmong, MakeNode, MakeOpen, Name, OpenOf, OptionsOf, Part, Right, Send, SetText, Settle, Start, Task, TaskOf, TextOf, AText, ServerInfo, faced, Unseat, UsersOf, World, apply, body_at, count_rights, edit_task, get, header_at, holders, home_at, is_empty_dir, is_home, is_on, names_open, new_site, one_if, open_at, part, rights_of, server_at, site_at, task_at, users, with_body, with_header, with_sent, with_text}
+use Rattle.hurd_machine.proofs.Common.{ABody, ATask, AUsers, AnEmpty, AnOpen, AnOptions, Attach, AttrOf, BodyOf, Change, Coherent, Control, DropServer, EditBody, EditHeader, EditOpen, EditTask, EmptyOf, Io, IsAmong, LetGo, MakeNode, MakeOpen, Name, OpenOf, OptionsOf, Part, Right, Send, SetText, Settle, Start, Task, TaskOf, TextOf, AText, ServerInfo, faced, Unseat, UsersOf, World, apply, body_at, count_rights, counts_at, counts_by, edit_task, ends_at, ends_of, get, header_at, holders, home_at, info_in, is_empty_dir, is_held, is_home, is_on, names_open, new_site, one_if, open_at, part, rights_of, server_at, site_at, task_at, users, with_body, with_header, with_sent, with_text, EndsOf, AnEnds}
 use Rattle.hurd_nodes.proofs.Sites.{home-apart}
 use Rattle.hurd_creds.proofs.NameLaws.{same_or_apart, edit_apart}
 use Rattle.hurd_ports.specs.Steps.{named}
 use Rattle.hurd_machine.proofs.Nodes.{attr_same, header_in, body_in, empty_in, header-with_header, header-with_body, body-with_header, body-with_body, edit_alike, insert_alike, ByEmptiness, edit_empty_alike}
 use Rattle.hurd_machine.proofs.Tasks.{edit_here, edit_same, count_edit, count_named, list_alike, count_sent}
-use Rattle.hurd_machine.proofs.Coherence.{next_not, Proper}
+use Rattle.hurd_ports.proofs.HeldLaws.{held_counted}
+use Rattle.hurd_machine.proofs.Coherence.{next_not, no_open, settled_alike, settled_apart, Proper}
+use Rattle.hurd_machine.proofs.Ends.{counts_text, ends_by, ends_edited, ends_let_go_alike, ends_made_alike, ends_told, made_uncounted}
 use Rattle.hurd_machine.proofs.Frame.{IsExact, next_world, next_is}
 use Rattle.hurd_machine.proofs.Comes.{attach_is}
-use Rattle.hurd_machine.proofs.ServerParts.{users_named, come_alike, drop_alike, unseated_alike}
+use Rattle.hurd_machine.proofs.ServerParts.{IsInside, users_named, come_alike, drop_alike, unseated_alike}
 use Rattle.hurd_machine.proofs.Confine.{SeenOrNew, Known, RightInside, Inside}
 use Rattle.hurd_machine.proofs.Allowed.{May, may_inside}
 
@@ -63,10 +65,17 @@ module _ (x y : World) where
   empty_alike (MakeNode k s node) by n h = insert_alike empty_in x.nodes y.nodes k n node h
   empty_alike c by n h = h
 
-  open_alike : (c : Change) → (o : Name) → open_at y o ≡ open_at x o → open_at (next_world c y) o ≡ open_at (next_world c x) o
-  open_alike (EditOpen k f) o h = edit_alike (λ z. z) (option_map f) f (λ z. refl) x.opens y.opens k o h
-  open_alike (MakeOpen k z) o h = insert_alike (λ u. u) x.opens y.opens k o z h
-  open_alike c o h = h
+  held_alike : (o : Name) → holders y o ≡ holders x o → is_held y.tasks o ≡ is_held x.tasks o
+  held_alike o e = held_counted y.tasks o ∙ ap (λ n. nat_lt 0 n) e ∙ sym (held_counted x.tasks o)
+
+  open_alike : (c : Change) → (o : Name) → open_at y o ≡ open_at x o → holders y o ≡ holders x o → open_at (next_world c y) o ≡ open_at (next_world c x) o
+  open_alike (EditOpen k f) o h e = edit_alike (λ z. z) (option_map f) f (λ z. refl) x.opens y.opens k o h
+  open_alike (MakeOpen k z) o h e = insert_alike (λ u. u) x.opens y.opens k o z h
+  open_alike (LetGo k) o h e = elim (same_or_apart o k) [
+    | inl same ↦ rw (← same) (settled_alike x.tasks y.tasks x.opens y.opens o (held_alike o e) h)
+    | inr apart ↦ settled_apart y.tasks y.opens k o apart ∙ h ∙ sym (settled_apart x.tasks x.opens k o apart)
+  ]
+  open_alike c o h e = h
 
   task_alike : (c : Change) → (q : ℕ) → task_at y q ≡ task_at x q → task_at (next_world c y) q ≡ task_at (next_world c x) q
   task_alike (EditTask k f) q h = edit_same k f x.tasks y.tasks q h
@@ -140,22 +149,56 @@ module _ (S : ℕ → Bool) (v x y : World) (before : Inside S v x) (cx : Cohere
       count_named (is_on y s) q.task.0 2 y.tasks ∙ e ∙ sym (count_named (is_on x s) q.task.0 2 x.tasks)
   users_alike c px py m after s e = e
 
+  -- whether a server is told
+
+  told_alike : (c : Change) → Proper x c → Proper y c → (n : Name) → counts_at y n ≡ counts_at x n → counts_at (next_world c y) n ≡ counts_at (next_world c x) n
+  told_alike (MakeNode k s node) px py n e = elim (same_or_apart n k) [
+    | inl same ↦ rw same (made_uncounted y k s node py.1 ∙ sym (made_uncounted x k s node px.1))
+    | inr apart ↦ ap (λ o. counts_by (info_in y.servers o)) (home-apart y.sites k (new_site s) n apart) ∙ e ∙ sym (ap (λ o. counts_by (info_in x.servers o)) (home-apart x.sites k (new_site s) n apart))
+  ]
+  told_alike (SetText q text) px py n e = counts_text y.servers q text (home_at y n) ∙ e ∙ sym (counts_text x.servers q text (home_at x n))
+  told_alike c px py n e = e
+
+  was_told : (c : Change) → Proper x c → (n : Name) → counts_at (next_world c x) n ≡ true → counts_at x n ≡ true
+  was_told (MakeNode k s node) px n e = elim (same_or_apart n k) [
+    | inl same ↦ absurd (true≢false (sym e ∙ ap (counts_at (next_world (MakeNode k s node) x)) same ∙ made_uncounted x k s node px.1))
+    | inr apart ↦ sym (ap (λ o. counts_by (info_in x.servers o)) (home-apart x.sites k (new_site s) n apart)) ∙ e
+  ]
+  was_told (SetText q text) px n e = sym (counts_text x.servers q text (home_at x n)) ∙ e
+  was_told c px n e = e
+
+  opens_alike : (c : Change) → Proper x c → Proper y c → May S v x c → (n : Name) → ends_of y.opens n ≡ ends_of x.opens n → ends_of (next_world c y).opens n ≡ ends_of (next_world c x).opens n
+  opens_alike (EditOpen o f) px py m n e = ends_edited y.opens n o f py ∙ e ∙ sym (ends_edited x.opens n o f px)
+  opens_alike (MakeOpen o z) px py m n e = ends_made_alike x.opens y.opens n e o z (no_open cx o (next_not x o px.0)) (no_open cy o (next_not y o py.0))
+  opens_alike (LetGo o) px py m n e =
+      let known = alike.parts (OpenOf o) m in
+      let held : holders y o ≡ holders x o = cc in
+      ends_let_go_alike x.opens y.opens n e x.tasks y.tasks o (held_alike x y o held) (cc)
+  opens_alike c px py m n e = e
+
+  ends_alike : (c : Change) → Proper x c → Proper y c → May S v x c → (n : Name) → ends_at y n ≡ ends_at x n → ends_at (next_world c y) n ≡ ends_at (next_world c x) n
+  ends_alike c px py m n e =
+      let same = ends_told x y n e in
+      ends_by (next_world c x) (next_world c y) n (told_alike c px py n same.0) (λ told. opens_alike c px py m n (same.1 (was_told c px n told)))
+
   module _ (c : Change) (px : Proper x c) (py : Proper y c) (m : May S v x c) (after : Inside S v (apply c x)) where
     -- each part that S knows is alike afterwards
     next_same : (p : Part) → Known S v p → part (next_world c y) p ≡ part (next_world c x) p
     next_same (AttrOf n) known = let e = alike.parts (AttrOf n) known in attr_same (header_alike x y c n (cc)) (site_alike x y c n (cc))
     next_same (EmptyOf n) known = let e = alike.parts (EmptyOf n) known in ap AnEmpty (empty_alike x y c (emptiness c m) n (cc))
     next_same (BodyOf n) known = let e = alike.parts (BodyOf n) known in ap ABody (body_alike x y c n (cc))
-    next_same (OpenOf o) known = let e = alike.parts (OpenOf o) known in ap₂ AnOpen (open_alike x y c o (cc)) (holders_alike c px py m o (cc))
+    next_same (EndsOf n) known = let e = alike.parts (EndsOf n) known in ap AnEnds (ends_alike c px py m n (cc))
+    next_same (OpenOf o) known = let e = alike.parts (OpenOf o) known in ap₂ AnOpen (open_alike x y c o (cc) (cc)) (holders_alike c px py m o (cc))
     next_same (OptionsOf s) known = let e = alike.parts (OptionsOf s) known in ap AnOptions (face_alike x y c s (cc))
     next_same (TextOf s) known = let e = alike.parts (TextOf s) known in ap AText (text_alike x y c s (cc))
     next_same (UsersOf s) known = let e = alike.parts (UsersOf s) known in ap AUsers (users_alike c px py m after s (cc))
     next_same (TaskOf q) known = let e = alike.parts (TaskOf q) known in ap ATask (task_alike x y c q (cc))
 
--- of what S knows of a node's bytes it knows the node
-attr_of : {S : ℕ → Bool} {v : World} (p : Part) (n : Name) → (p ≡ EmptyOf n) ⊎ (p ≡ BodyOf n) → Known S v p → Known S v (AttrOf n)
+-- of what S knows of what is in a node, or who reads it, it knows the node
+attr_of : {S : ℕ → Bool} {v : World} (p : Part) (n : Name) → IsInside n p → Known S v p → Known S v (AttrOf n)
 attr_of {S} {v} p n (inl e) known = elim (subst (Known S v) e known) [ inl sees ↦ inl sees.0 | inr new ↦ inr new ]
-attr_of {S} {v} p n (inr e) known = elim (subst (Known S v) e known) [ inl sees ↦ inl sees.0 | inr new ↦ inr new ]
+attr_of {S} {v} p n (inr (inl e)) known = elim (subst (Known S v) e known) [ inl sees ↦ inl sees.0 | inr new ↦ inr new ]
+attr_of {S} {v} p n (inr (inr e)) known = elim (subst (Known S v) e known) [ inl sees ↦ inl sees.1.0 | inr new ↦ inr new ]
 
 module _ (S : ℕ → Bool) (v x y : World) (before : Inside S v x) (cx : Coherent x) (cy : Coherent y) (alike : Mirror S v x y) where
   -- each part that S knows is alike after a change

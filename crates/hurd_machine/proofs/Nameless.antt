@@ -2,7 +2,7 @@
 use Rattle.std.proofs.Common.{◌≡◌, ◌∙◌, ℕ, ◌+◌, Bool, true, false, cond, List, [], ◌∷◌, Some, None, sym, refl, ap, subst, inl, inr, arith}
 use Rattle.hurd_machine.proofs.Sites.{seat_kept}
 use Rattle.hurd_nodes.proofs.Sites.{home-here, home-apart}
-use Rattle.hurd_machine.proofs.Common.{Below, Change, Coherent, IdSets, Io, IoRight, IsAmong, IsFilled, IsShaped, MakeNode, Name, Node, OpenFlags, OptionsOf, Part, Right, Sees, ServerInfo, Sound, Taken, Task, TaskOf, UsersOf, World, apply, apply_all, counts_by, edit_task, fresh, gives_text, header_at, home_at, info_at, info_in, is_dir, is_entered_at, is_held, keeps_tree, leads_on, namings, new_open, new_site, porting, server_at, shape_at, shape_by, stays, task_at, times_listed, tree_by, ways_of, with_port}
+use Rattle.hurd_machine.proofs.Common.{Below, Change, Coherent, IdSets, Io, IoRight, IsAmong, IsFilled, IsShaped, MakeNode, Name, Node, OpenFlags, OptionsOf, Part, Right, Sees, ServerInfo, Sound, Taken, Task, TaskOf, UsersOf, World, apply, apply_all, counts_by, edit_task, fresh, gives_text, header_at, home_at, info_at, info_in, is_dir, is_entered_at, is_held, keeps_tree, leads_on, namings, new_open, new_site, opening, server_at, shape_at, shape_by, stays, task_at, times_listed, tree_by, ways_of, with_port}
 use Rattle.hurd_creds.proofs.NameLaws.{get_here, get_apart}
 use Rattle.hurd_ports.specs.declared.parents.Parent.{Parent as Pair}
 use Rattle.hurd_ports.specs.Steps.{named}
@@ -24,8 +24,8 @@ use Rattle.hurd_machine.proofs.Confine.{NewTo, SeenOrNew}
 use Rattle.hurd_machine.proofs.Permits as permits
 use Rattle.hurd_machine.proofs.Permits.{opens_may}
 use Rattle.hurd_machine.proofs.Opens.{own_task, fresh_new, fresh_next, later_new, opens_piece}
-use Rattle.hurd_machine.proofs.Counting.{AllCalm, port_calm, tree_counts}
-use Rattle.hurd_machine.proofs.Piece.{Whole, stands, resting, piece_then}
+use Rattle.hurd_machine.proofs.Held.{held_one}
+use Rattle.hurd_machine.proofs.Piece.{Whole, stands, piece_then}
 
 -- a node that is no directory, has no parent and no links
 pub record IsNameless (node : Node) : Type 0 where
@@ -37,7 +37,7 @@ pub record IsNameless (node : Node) : Type 0 where
 
 -- task t makes it, of this server, and opens it
 abbrev pub nameless : ℕ → Task → Name → Node → IdSets → List Pair → OpenFlags → List Change
-nameless t x s node ids parents modes = MakeNode (fresh t x) s node ∷ porting t (named 1 x) (fresh t x) ids parents modes
+nameless t x s node ids parents modes = MakeNode (fresh t x) s node ∷ opening t (named 1 x) (fresh t x) ids parents modes
 
 module _ (w : World) (t : ℕ) (x : Task) (is : task_at w t ≡ Some x) (s : Name) (i : ServerInfo) (server : server_at w s ≡ Some i) (node : Node) (lone : IsNameless node) (ids : IdSets) (parents : List Pair) (modes : OpenFlags) where
   abbrev n : Name
@@ -47,7 +47,7 @@ module _ (w : World) (t : ℕ) (x : Task) (is : task_at w t ≡ Some x) (s : Nam
   made = apply (MakeNode n s node) w
 
   abbrev file_opened : List Change
-  file_opened = porting t (named 1 x) n ids parents modes
+  file_opened = opening t (named 1 x) n ids parents modes
 
   abbrev left : World
   left = apply_all (nameless t x s node ids parents modes) w
@@ -112,7 +112,7 @@ module _ (w : World) (t : ℕ) (x : Task) (is : task_at w t ≡ Some x) (s : Nam
           (λ k. ap is_entered_at (get_apart w.nodes n node m old.0) ∙ k) (held_more w left.tasks m (yet.named m)) (rest.nodes m y old.1)
     ];
     servers = λ q j e. lives_yet q (rest.servers q j e);
-    opens = λ o z e. elim (was w.opens io.open_name o (new_open modes) z e) [
+    opens = λ o z e. elim (was w.opens io.open_name o (new_open n modes) z e) [
       | inl new ↦ subst (λ k. is_held left.tasks k ≡ true) (sym new.0) (held_by_right left.tasks t (with_port right (named 1 (named 1 x))) io now (port_has right (named 1 (named 1 x))))
       | inr old ↦ yet.held o (rest.opens o z old.1)
     ];
@@ -132,21 +132,18 @@ module _ (w : World) (t : ℕ) (x : Task) (is : task_at w t ≡ Some x) (s : Nam
   pub nameless_whole : {T : Part → Type 0} → Sound w → keeps_tree i.kind ≡ true → IsFilled i node → ((m : Name) → IsAmong m (ways_of parents) → CanBeNamed w m) → T (UsersOf s)
       → ((S : ℕ → Bool) → S t ≡ true → Taken S w ids × ((m : Name) → IsAmong m (ways_of parents) → SeenOrNew S w m) × Sees S w (OptionsOf s)) → Whole t (Full w t T) w w (nameless t x s node ids parents modes)
   nameless_whole {T} st tree fit up users sees =
-      resting (nameless t x s node ids parents modes) calm (stands st) (piece_then (MakeNode n s node ∷ []) file_opened (tt, tt) (stands st) (record {
+      record { piece = piece_then (MakeNode n s node ∷ []) file_opened (tt, tt) (stands st) (record {
         within = ((own, inr (inr new), inr (inr new), inr (inr new)), tt);
         proper = ((next, record { info = i; is_server = server; tree = tree; shape = lone.shape; empty = lone.empty; parent = λ p e. absurd (cc (lone.alone, e)) }), λ one. tt);
         linked = made_linked c st.linked;
         filled = filled_made w n s node (λ j e. let same : i ≡ j = cc (server, e) in rw (← same) fit) st.filled;
+        held = held_one (MakeNode n s node) w tt st.settled.opens;
         may = λ S ours. ((ours, inl (sees S ours).2, λ p e. absurd (cc (lone.alone, e))), tt);
-      }) (λ d. opens_piece made t (named 1 x) seat n ids parents modes d own (inr (inr (later_new w t 1 x is))) (λ p on. let same : on.0 ≡ s = cc (on.1, home) in inl (rw (on.2, same) users))
+      }) (λ d. opens_piece made t (named 1 x) seat n ids parents modes d own (inr (inr (later_new w t 1 x is))) (λ p on. elim on [ inl one ↦ let same : one.0 ≡ s = cc (one.1, home) in inl (rw (one.2, same) users) | inr ends ↦ rw (ends.1) (inr (inr new)) ])
       (named_below w c n next 1 n refl (omega arith), inr shape.0) ways_yet (λ writes. (λ h e. let same : node.header ≡ h = cc (header, e) in rw (← same) lone.file, shape.1))
       (λ S ours. opens_may S w made t (named 1 x) n ids parents modes ours (permits.later_new S w t x (x.made + 1) ours is (omega arith)) (inr (fresh_yet S ours)) (sees S ours).1 (inr (sees S ours).0)
-      (λ read h e. absurd ((fresh_yet S ours).1 (header_old c n h e)))))) (nameless_rests c st.settled)
+      (λ read h e. absurd ((fresh_yet S ours).1 (header_old c n h e))))); rests = nameless_rests c st.settled }
     where
-      -- its server counts nothing
-      calm : AllCalm w (nameless t x s node ids parents modes)
-      calm = (tt, λ one. (tt, λ two. (port_calm _ t right (inr (ap counts_by (ap (info_in made.servers) home ∙ server) ∙ tree_counts i.kind tree)), λ three. tt)))
-
       c : Coherent w
       c = st.coherent
 

@@ -1,7 +1,7 @@
 -- Pieces of plans, and why a task of S may make them.
 use Rattle.std.proofs.Common.{◌≡◌, ◌⊎◌, ℕ, ◌<◌, ◌≤◌, Bool, true, false, cond, List, [], ◌∷◌, ◌++◌, Option, Some, None, refl, sym, ◌∙◌, ap, subst, inl, inr, arith}
 use Rattle.std.specs.Prelude.{Ok}
-use Rattle.hurd_machine.proofs.Common.{Body, Change, Content, Did, EditBody, HasUid, Header, IdSets, Io, IoRight, IsAmong, Listing, MakeOpen, Name, OpenFlags, Opened, Right, SeesBody, Settle, Taken, Task, World, apply, apply_all, bytes_eq, changes_of, counts_at, edit_bytes, edit_size, edits_of, entry_in, entry_of, fresh, get, header_at, insert, is_empty_dir, name_of, new_open, on_bytes, porting, task_at, tells, ways_of, with_entry, with_port, with_size}
+use Rattle.hurd_machine.proofs.Common.{Body, Change, Content, Did, EditBody, HasUid, Header, IdSets, Io, IoRight, IsAmong, Listing, MakeOpen, Name, OpenFlags, Opened, Right, SeesBody, Settle, Taken, Task, World, apply, apply_all, bytes_eq, changes_of, counts_at, edit_bytes, edit_size, edits_of, entry_in, entry_of, fresh, get, header_at, insert, is_empty_dir, name_of, new_open, on_bytes, opening, task_at, tells, ways_of, with_entry, with_port, with_size}
 use Rattle.hurd_creds.proofs.NameLaws.{get_here}
 use Rattle.hurd_trans_iface.specs.Nodes.{Entry}
 use Rattle.hurd_ports.specs.declared.parents.Parent.{Parent as Pair}
@@ -29,7 +29,7 @@ later_new S v t x k ours is up = (ours, λ b. let low : k < x.made = b x is in a
 
 -- a node is opened, of which S sees the body where it is opened to read
 pub opens_may : (S : ℕ → Bool) (v w : World) (t : ℕ) (x : Task) (n : Name) (ids : IdSets) (parents : List Pair) (modes : OpenFlags) → S t ≡ true → NewTo S v (fresh t x) → SeenOrNew S v n → ((m : Name) → IsAmong m (ways_of parents) → SeenOrNew S v m) → HasUid S v 0 ⊎ Taken S v ids
-    → (tells (counts_at v n) modes ≡ true → (h : Header) → header_at v n ≡ Some h → SeesBody S v n h) → AllMay S v w (porting t x n ids parents modes)
+    → (tells (counts_at v n) modes ≡ true → (h : Header) → header_at v n ≡ Some h → SeesBody S v n h) → AllMay S v w (opening t x n ids parents modes)
 opens_may S v w t x n ids parents modes ours new seen ways power reads = (ours, ((ours, λ a at. gained_may S v opened right a (with_port right a) refl (port_rights right a) (may, power)), tt))
   where
     io : IoRight
@@ -39,14 +39,14 @@ opens_may S v w t x n ids parents modes ours new seen ways power reads = (ours, 
     right = Io io
 
     opened : World
-    opened = apply (MakeOpen (fresh t x) (new_open modes)) w
+    opened = apply (MakeOpen (fresh t x) (new_open n modes)) w
 
     may : RightMay S v opened (Io io)
     may = record {
       inside = record { nodes = λ m i. elim i [ inl e ↦ subst (SeenOrNew S v) e seen | inr way ↦ ways m way ]; opened = inr new };
       reads = λ o e asked h eh.
-          let here : get (insert w.opens (fresh t x) (new_open modes)) (fresh t x) ≡ Some (new_open modes) = get_here w.opens (fresh t x) (new_open modes) in
-          let same : new_open modes ≡ o = cc in
+          let here : get (insert w.opens (fresh t x) (new_open n modes)) (fresh t x) ≡ Some (new_open n modes) = get_here w.opens (fresh t x) (new_open n modes) in
+          let same : new_open n modes ≡ o = cc in
           reads (ap (λ (z : Opened). tells (counts_at v n) z.modes) same ∙ asked) h eh;
     }
 

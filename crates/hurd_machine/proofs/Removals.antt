@@ -246,6 +246,7 @@ module _ (d : Name) (name : List ℕ) (n : Name) where
     within = ((body, inl empty), (attr, tt));
     proper = (cut_proper w s.coherent d name, λ one. (head_proper w s.coherent m s.linked, λ two. tt));
     linked = left_linked w s.coherent m s.linked;
-    filled = filled_append cutting (EditHeader n unlinked ∷ []) w (filled_removed good w d name) (filled_header (apply_all cutting w) n unlinked (λ h. refl) (tree_header (apply_all cutting w) n unlinked m.tree (λ h. (refl, refl)))) s.filled;
+    filled = filled_append cutting (EditHeader n unlinked ∷ []) w (filled_removed good w d name) (filled_header (apply_all cutting w) n unlinked (λ h. refl) (tree_header (apply_all cutting w) n unlinked m.tree)) s.filled;
+    held = s.held;
     may = λ S ours. ((inr (inl (sees S ours)), λ b other m is e. inl (entry_of_before name other m b (distinct_at w s.coherent d b is) e)), ((λ h at. unlinked_less S w h), tt));
   }

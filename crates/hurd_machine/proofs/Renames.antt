@@ -194,7 +194,8 @@ module _ (d : Name) (name : List ℕ) (n e : Name) (new : List ℕ) where
         proper = going_proper w s.coherent m s.linked;
         linked = arrived_linked w s.coherent m s.linked;
         filled = filled_append (EditBody d (without_entry name) ∷ []) (EditHeader n (moved_to e) ∷ EditBody e (with_entry new n) ∷ []) w (filled_removed good w d name)
-            (filled_append (EditHeader n (moved_to e) ∷ []) (EditBody e (with_entry new n) ∷ []) one (filled_header one n (moved_to e) (λ h. refl) (keeps_header one n (moved_to e) (λ h. (refl, refl, refl, refl)))) (filled_entry good two e new n into)) s.filled;
+            (filled_append (EditHeader n (moved_to e) ∷ []) (EditBody e (with_entry new n) ∷ []) one (filled_header one n (moved_to e) (λ h. refl) (keeps_header one n (moved_to e) (λ h. (refl, refl)))) (filled_entry good two e new n into)) s.filled;
+        held = s.held;
         may = λ S ours. let k = sees S ours in (
           (inr (inl k.0), λ b other m is h. inl (entry_of_before name other m b (distinct_at w s.coherent d b is) h)),
           ((λ h at. turned_less S v h k.2 (λ dir. k.3 h (sym (edit_keeps header_in (with_body (without_entry name)) (header-with_body (without_entry name)) w.nodes d n) ∙ at) dir)), (entry_may S v two e new n (inl k.1), tt)),

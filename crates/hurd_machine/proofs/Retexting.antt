@@ -14,13 +14,13 @@ use Rattle.hurd_machine.specs.World.{nodes_of}
 use Rattle.hurd_machine.proofs.Nodes.{edited_from, server_home}
 use Rattle.hurd_machine.proofs.Sites.{home_is}
 use Rattle.hurd_machine.proofs.Coherence.{AllProper, KeepsShape}
-use Rattle.hurd_machine.proofs.Retained.{retained, dropped, was_retained}
+use Rattle.hurd_creds.proofs.Retained.{retained, dropped, was_retained}
 use Rattle.hurd_machine.proofs.Frame.{AllWithin}
 use Rattle.hurd_machine.proofs.Settle.{AreQuiet}
 use Rattle.hurd_machine.proofs.Filled.{KeepsFilled}
 use Rattle.hurd_machine.proofs.Links.{AreSteady, linked_steady}
 use Rattle.hurd_machine.proofs.Several.{AllMay}
-use Rattle.hurd_machine.proofs.Counting.{AllCalm}
+use Rattle.hurd_machine.proofs.Held.{AllKeepHeld, held_all}
 use Rattle.hurd_machine.proofs.Permits.{size_may}
 use Rattle.hurd_machine.proofs.Piece.{Whole, whole_none, quiet}
 use Rattle.hurd_machine.proofs.Holders.{any_among, any_of}
@@ -116,13 +116,13 @@ module _ (k : ℕ) where
   sized_apart [] m n out = refl
   sized_apart (q ∷ ns) m n out = sized_apart ns (edit q sized m) n (λ i. out (inr i)) ∙ edit_apart m q sized n (λ e. out (inl (sym e)))
 
-  -- they write headers alone, may be made, take nothing away, leave how nodes hang, and count nothing
+  -- they write headers alone, may be made, take nothing away, leave how nodes hang, and what is open
   sizes_piece : (T : Part → Type 0) (ns : List Name) (w : World) → ((n : Name) → IsAmong n ns → T (AttrOf n))
-      → AllWithin T w (sizes ns) × AllProper w (sizes ns) × AreQuiet w (sizes ns) × AreSteady (sizes ns) × ((S : ℕ → Bool) (v : World) → AllMay S v w (sizes ns)) × AllCalm w (sizes ns)
+      → AllWithin T w (sizes ns) × AllProper w (sizes ns) × AreQuiet w (sizes ns) × AreSteady (sizes ns) × ((S : ℕ → Bool) (v : World) → AllMay S v w (sizes ns)) × AllKeepHeld (sizes ns)
   sizes_piece T [] w attrs = (tt, tt, tt, tt, λ S v. tt, tt)
   sizes_piece T (n ∷ ns) w attrs =
       let l = sizes_piece T ns (record w { nodes = edit n sized w.nodes }) (λ m i. attrs m (inr i)) in
-      ((attrs n (inl refl), l.0), (λ h is. (refl, inl refl), λ one. l.1), (λ h e. e, l.2), (λ h. (refl, refl, refl), l.3), λ S v. (λ h is. size_may S v n k h, l.4 S v), (λ h. (refl, refl), λ c. l.5))
+      ((attrs n (inl refl), l.0), (λ h is. (refl, inl refl), λ one. l.1), (λ h e. e, l.2), (λ h. (refl, refl, refl), l.3), λ S v. (λ h is. size_may S v n k h, l.4 S v), (tt, l.5))
 
 -- the whole piece
 
@@ -173,11 +173,12 @@ module _ (w : World) (s : Name) (i : ServerInfo) where
       let k : ℕ = size_of i.kind text in
       let set : World = record w { servers = edit s (with_text text) w.servers } in
       let l = sizes_piece k T own set (λ n among. subst (λ m. T (AttrOf m)) (sym (root_alone st.coherent is text keeps n (own_home s n w.sites among))) attr) in
-      quiet (retexting w s i (Some text)) (tt, l.2) (tt, λ c. l.5) st (record {
+      quiet (retexting w s i (Some text)) (tt, l.2) st (record {
         within = ((options, unseen), l.0);
         proper = (fits, λ one. l.1);
         linked = linked_steady (retexting w s i (Some text)) w (tt, l.3) st.linked;
         filled = retexts_filled st.coherent is text keeps st.filled;
+        held = held_all (retexting w s i (Some text)) w (tt, l.5) st.settled.opens;
         may = λ S ours. (tt, l.4 S w);
       })
     where

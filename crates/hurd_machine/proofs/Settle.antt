@@ -1,7 +1,7 @@
 -- A world is settled once what nothing names is gone: who sees it sees the same; and changes that leave a world settled.
 use Rattle.std.proofs.Common.{◌≡◌, ◌⊎◌, ℕ, Bool, true, List, [], ◌∷◌, Option, Some, None, slice_get, nat_lt, sym, refl, ◌∙◌, ap, ap₂, subst, inl, inr}
 use Rattle.std.specs.Option.{option_map}
-use Rattle.hurd_machine.proofs.Common.{ABody, AUsers, Active, AnAttr, AnEmpty, AnOpen, AnOptions, AtRest, Attach, AttrOf, Body, BodyOf, Change, Child, Coherent, DropServer, EditBody, EditHeader, EditOpen, EditTask, EmptyOf, Header, Holds, IdSets, Io, IoRight, IsAmong, IsGone, IsSettled, Knows, Linked, MakeNode, MakeOpen, Name, Node, NodeMap, NodeState, OfControl, OfNode, OfSeat, OpenFlags, OpenOf, OptionsOf, Part, Pending, Seen, Sees, Send, ServerInfo, ServerRoot, SetText, Settle, Site, Start, Target, Task, TaskOf, TextOf, AText, faced, Unseat, UsersOf, Way, World, apply, apply_all, body_at, edit, edit_task, fresh, get, header_at, holders, home_at, is_empty_dir, is_entered, is_entered_at, is_held, is_home, namings, new_open, new_right, new_site, open_at, outside, part, porting, ports_of, server_at, site_at, stays, task_at, users, with_body, with_header, with_port, with_sent, with_text, world_from}
+use Rattle.hurd_machine.proofs.Common.{ABody, AUsers, Active, AnAttr, AnEmpty, AnOpen, AnOptions, AtRest, Attach, AttrOf, Body, BodyOf, Change, Child, Coherent, DropServer, EditBody, EditHeader, EditOpen, EditTask, EmptyOf, Header, Holds, IdSets, Io, IoRight, IsAmong, IsGone, IsSettled, Knows, LetGo, Linked, MakeNode, MakeOpen, Name, Node, NodeMap, NodeState, OfControl, OfNode, OfSeat, OpenFlags, OpenOf, OptionsOf, Part, Pending, Seen, Sees, Send, ServerInfo, ServerRoot, SetText, Settle, Site, Start, Target, Task, TaskOf, TextOf, AText, faced, Unseat, UsersOf, Way, World, apply, apply_all, body_at, edit, edit_task, ends_at, fresh, get, header_at, holders, home_at, info_at, info_in, is_empty_dir, is_entered, is_entered_at, is_held, is_home, namings, new_open, new_right, new_site, open_at, outside, part, opening, ports_of, server_at, site_at, stays, task_at, users, with_body, with_header, with_port, with_sent, with_text, world_from, EndsOf, AnEnds}
 use Rattle.hurd_machine.proofs.Sites.{seat_kept}
 use Rattle.hurd_nodes.proofs.Sites.{home-here, home-apart, home_by}
 use Rattle.hurd_creds.proofs.NameLaws.{same_or_apart, get_here, get_apart, edit_here, edit_apart}
@@ -17,10 +17,11 @@ use Rattle.hurd_machine.specs.Sight.{Value}
 use Rattle.hurd_machine.specs.Change.{server_stays, settle}
 use Rattle.hurd_machine.proofs.Nodes.{attr_same, header_in, body_in, empty_in, none_mapped, edit_keeps, was_edited}
 use Rattle.hurd_machine.proofs.Tasks.{sent_keeps, edit_here as task_here}
-use Rattle.hurd_ports.proofs.HeldLaws.{held_counted}
-use Rattle.hurd_machine.proofs.Holders.{let_go, held_by_right, KeepsRights, NameMore, still, still_more}
-use Rattle.hurd_machine.proofs.Retained.{retained_if, retained, dropped, was_retained, none_retained}
-use Rattle.hurd_machine.proofs.Stays.{sweep, way_at, way_parent, server_more, kept_more, lives_at, lives_active, lives_controlled, stays_entered, stays_named, stays_target, held_more}
+use Rattle.hurd_machine.proofs.Ends.{ends_same, ends_gone}
+use Rattle.hurd_machine.proofs.Held.{KeepsHeld, held_one}
+use Rattle.hurd_machine.proofs.Holders.{held_by_right, KeepsRights, NameMore, still, still_more}
+use Rattle.hurd_creds.proofs.Retained.{retained_if, retained, dropped, was_retained, none_retained}
+use Rattle.hurd_machine.proofs.Stays.{info_still, sweep, way_at, way_parent, server_more, kept_more, lives_at, lives_active, lives_controlled, stays_entered, stays_named, stays_target, held_more}
 use Rattle.hurd_machine.proofs.Swept.{root_stays, boot_stays, entry_stays, parent_stays, settle_keeps}
 use Rattle.hurd_machine.proofs.Coherence.{was, entry_lists, home_server}
 use Rattle.hurd_machine.proofs.Texts.{server_was, held_yet, stays_kept}
@@ -31,19 +32,15 @@ use Rattle.hurd_machine.proofs.ServerParts.{users_by}
 
 -- what is left once a world is settled stays
 
--- the world without nodes and servers that don't stay; its opens are still there
-abbrev swept : World → World
-swept w = world_from (kept.settle (outside w) (nodes_of w)) (ports_of w)
-
 -- a sweep takes nothing more
-swept_whole : (w : World) → kept.sweep (outside w) (nodes_of (swept w)) ≡ nodes_of (swept w)
-swept_whole w = (settle-is (outside w) (nodes_of w)).stays
+settled_whole : (w : World) → kept.sweep (outside w) (nodes_of (settle w)) ≡ nodes_of (settle w)
+settled_whole w = (settle-is (outside w) (nodes_of w)).stays
 
-pub settle_settled : (w : World) → AtRest (settle w)
-settle_settled w = record {
-  nodes = λ n x e. (was_retained (swept w).nodes (stays (swept w)) n x (ap (λ (h : NodeState). get h.nodes n) (swept_whole w) ∙ e)).1;
-  servers = λ s i e. (was_retained (swept w).servers (server_stays (swept w)) s i (ap (λ (h : NodeState). get h.servers s) (swept_whole w) ∙ e)).1;
-  opens = λ o y h. (was_retained w.opens (is_held w.tasks) o y h).1;
+pub settle_settled : (w : World) → IsSettled (ports_of w) → AtRest (settle w)
+settle_settled w held = record {
+  nodes = λ n x e. (was_retained (settle w).nodes (stays (settle w)) n x (ap (λ (h : NodeState). get h.nodes n) (settled_whole w) ∙ e)).1;
+  servers = λ s i e. (was_retained (settle w).servers (server_stays (settle w)) s i (ap (λ (h : NodeState). get h.servers s) (settled_whole w) ∙ e)).1;
+  opens = held;
 }
 
 -- the node of a right stays, so servers have as many users
@@ -90,6 +87,17 @@ module _ (S : ℕ → Bool) (w : World) (c : Coherent w) (l : Linked (nodes_of w
       ap₂ read (retained_if w.nodes (stays w) n (λ x e. alive n s x.header (ap header_in e)))
       (retained_if w.sites (stays w) n (λ r e. let h = c.housing.housed n r.home (ap home_by e) in alive n s h.0 h.1))
 
+  -- and so is its server
+  info_seen : (n : Name) → Seen S w n → info_at (sweep w) n ≡ info_at w n
+  info_seen n s = go (home_at w n) refl
+    where
+      site : site_at (sweep w) n ≡ site_at w n
+      site = retained_if w.sites (stays w) n (λ r e. let h = c.housing.housed n r.home (ap home_by e) in alive n s h.0 h.1)
+
+      go : (o : Option Name) → home_at w n ≡ o → info_at (sweep w) n ≡ info_at w n
+      go None e = ap (info_in (sweep w).servers) (ap home_by site ∙ e) ∙ sym (ap (info_in w.servers) e)
+      go (Some q) e = let h = c.housing.housed n q e in info_still w n (alive n s h.0 h.1)
+
   known_lives : (s : Name) → Knows S w s → server_stays w s ≡ true
   known_lives s (OfNode n sn en) = let h = c.housing.housed n s en in lives_at w n s (alive n sn h.0 h.1) en
   known_lives s (OfSeat n sn en) = lives_active w n s en
@@ -102,25 +110,17 @@ module _ (S : ℕ → Bool) (w : World) (c : Coherent w) (l : Linked (nodes_of w
       same (AttrOf n) s = seen_still (λ o r. AnAttr (header_in o) r) n s
       same (EmptyOf n) s = seen_still (λ o r. AnEmpty (empty_in o)) n s.0
       same (BodyOf n) s = seen_still (λ o r. ABody (body_in o)) n s.0
+      same (EndsOf n) s = ap AnEnds (ends_same w (sweep w) n (info_seen n s.1.0) refl)
       same (OpenOf o) s = refl
       same (OptionsOf q) s = ap (λ o. AnOptions (face_in o)) (retained w.servers (server_stays w) q (known_lives q s))
       same (TextOf q) s = ap (λ o. AText (text_in o)) (retained w.servers (server_stays w) q (known_lives q (text_known S w q s.0 s.2)))
       same (UsersOf q) s = ap AUsers (users_still w c q)
       same (TaskOf t) s = refl
 
-let_go_agrees : (S : ℕ → Bool) (w : World) → Agree S w (let_go w)
-let_go_agrees S w = record { tasks = refl; parts = same }
-  where
-    same : (p : Part) → Sees S w p → part (let_go w) p ≡ part w p
-    same (OpenOf o) s =
-        let held : is_held w.tasks o ≡ true = subst (λ z. is_held w.tasks z ≡ true) s.2 (held_by_right w.tasks s.1.task s.1.seat s.0 s.1.is_task s.1.here) in
-        ap (λ v. AnOpen v (holders w o)) (retained w.opens (is_held w.tasks) o held)
-    same p s = refl
-
 -- who sees a world sees the same once it is settled
 pub settle_agrees : (S : ℕ → Bool) (w : World) → Coherent w → Linked (nodes_of w) → Agree S w (settle w)
 settle_agrees S w c l =
-    settle_keeps (Agree S w) (λ x cx lx a. Agree-trans a (sweep_agrees S x cx lx)) (λ x cx a. Agree-trans a (let_go_agrees S x)) w c l (Agree-refl S w)
+    settle_keeps (Agree S w) (λ x cx lx a. Agree-trans a (sweep_agrees S x cx lx)) w c l (Agree-refl S w)
 
 -- a part is as in the settled world w, or gone
 abbrev pub AsBefore : World → World → Part → Type 0
@@ -142,6 +142,10 @@ module _ (x : World) (c : Coherent x) where
   sweep_part (AttrOf n) = sweep_node (λ o r. AnAttr (header_in o) r) n
   sweep_part (EmptyOf n) = sweep_node (λ o r. AnEmpty (empty_in o)) n
   sweep_part (BodyOf n) = sweep_node (λ o r. ABody (body_in o)) n
+  sweep_part (EndsOf n) = elim (cases_Bool (stays x n)) [
+    | inl k ↦ inl (ap AnEnds (ends_same x (sweep x) n (info_still x n k) refl))
+    | inr k ↦ inr (ap AnEnds (ends_gone (sweep x) n (ap home_by (dropped x.sites (stays x) n k))))
+  ]
   sweep_part (OpenOf o) = inl refl
   sweep_part (OptionsOf s) = sweep_server (λ o. AnOptions (face_in o)) s
   sweep_part (TextOf s) = sweep_server (λ o. AText (text_in o)) s
@@ -154,35 +158,21 @@ sweep_gone x (AttrOf n) e =
     attr_same (ap header_in (none_retained x.nodes (stays x) n (none_mapped (λ z. z.header) (get x.nodes n) (cc)))) (none_retained x.sites (stays x) n (cc))
 sweep_gone x (EmptyOf n) e = ap (λ (o : Option Node). AnEmpty (empty_in o)) (none_retained x.nodes (stays x) n (none_mapped (λ z. z.body) (get x.nodes n) (none_mapped is_empty_dir (body_at x n) (cc))))
 sweep_gone x (BodyOf n) e = ap (λ (o : Option Node). ABody (body_in o)) (none_retained x.nodes (stays x) n (none_mapped (λ z. z.body) (get x.nodes n) (cc)))
+sweep_gone x (EndsOf n) e =
+    let ends : ends_at x n ≡ None = cc in
+    ap AnEnds (elim (cases_Bool (stays x n)) [ inl k ↦ ends_same x (sweep x) n (info_still x n k) refl ∙ ends | inr k ↦ ends_gone (sweep x) n (ap home_by (dropped x.sites (stays x) n k)) ])
 sweep_gone x (OptionsOf s) e = ap (λ o. AnOptions (face_in o)) (none_retained x.servers (server_stays x) s (none_mapped faced (server_at x s) (cc)))
 sweep_gone x (TextOf s) e = ap (λ o. AText (text_in o)) (none_retained x.servers (server_stays x) s (none_mapped (λ (i : ServerInfo). i.text) (server_at x s) (cc)))
 sweep_gone x p e = absurd e
 
--- letting opens go leaves each part but those, and such as a world at rest had
-module _ (w : World) (rest : AtRest w) where
-  let_go_part : (p : Part) (x : World) → part x p ≡ part w p → part (let_go x) p ≡ part w p
-  let_go_part (OpenOf o) x e =
-      let opens : open_at x o ≡ open_at w o = cc in
-      let counts : holders x o ≡ holders w o = cc in
-      let held : is_held x.tasks o ≡ is_held w.tasks o = held_counted x.tasks o ∙ ap (λ n. nat_lt 0 n) counts ∙ sym (held_counted w.tasks o) in
-      ap₂ AnOpen (retained_if x.opens (is_held x.tasks) o (λ y is. held ∙ rest.opens o y (sym opens ∙ is)) ∙ opens) counts
-  let_go_part p x e = e
-
-  let_go_gone : (p : Part) (x : World) → IsGone x p → IsGone (let_go x) p
-  let_go_gone (OpenOf o) x e = absurd e
-  let_go_gone (UsersOf s) x e = absurd e
-  let_go_gone (TaskOf t) x e = absurd e
-  let_go_gone p x e = e
-
-  -- a part that a settled world has unchanged in another keeps that value where this is settled, or its thing goes
-  pub settle_part : (p : Part) (x : World) → Coherent x → Linked (nodes_of x) → AsBefore w x p → AsBefore w (settle x) p
-  settle_part p x c l e =
-      settle_keeps (λ y. AsBefore w y p)
-      (λ y cy ly b. elim b [
-        | inl same ↦ elim (sweep_part y cy p) [ inl kept ↦ inl (kept ∙ same) | inr gone ↦ inr gone ]
-        | inr gone ↦ inr (sweep_gone y p gone)
-      ])
-      (λ y cy b. elim b [ inl same ↦ inl (let_go_part p y same) | inr gone ↦ inr (let_go_gone p y gone) ]) x c l e
+-- a part that a settled world has unchanged in another keeps that value where this is settled, or its thing goes
+pub settle_part : (w : World) (p : Part) (x : World) → Coherent x → Linked (nodes_of x) → AsBefore w x p → AsBefore w (settle x) p
+settle_part w p x c l e =
+    settle_keeps (λ y. AsBefore w y p)
+    (λ y cy ly b. elim b [
+      | inl same ↦ elim (sweep_part y cy p) [ inl kept ↦ inl (kept ∙ same) | inr gone ↦ inr gone ]
+      | inr gone ↦ inr (sweep_gone y p gone)
+    ]) x c l e
 
 -- lists of changes that leave a settled world so
 
@@ -246,6 +236,7 @@ servers_more (Send r t) w keeps s h = tasks_more t (with_sent r) w s (sent_keeps
 servers_more (EditHeader n f) w keeps s h = h
 servers_more (EditBody n g) w keeps s h = h
 servers_more (EditOpen o f) w keeps s h = h
+servers_more (LetGo o) w keeps s h = h
 servers_more (SetText k text) w keeps s h =
     server_more (namings w) (namings (apply (SetText k text) w)) (nodes_of w) (nodes_of (apply (SetText k text) w)) s (λ k. k) (λ n e. e) (λ n e held. (e, held_yet w k text n held)) h
 servers_more c w keeps s h = absurd keeps
@@ -271,6 +262,7 @@ nodes_still (MakeNode k s node) w q rest n x e = elim (was w.nodes k n node x e)
       (held_more w (edit_task k.task.0 (named 1) w.tasks) n ((still k.task.0 (named 1) w.tasks (λ y r h. h)).named n)) (rest.nodes n x old.1)
 ]
 nodes_still (EditOpen o f) w q rest n x e = rest.nodes n x e
+nodes_still (LetGo o) w q rest n x e = rest.nodes n x e
 nodes_still (SetText k text) w q rest n x e = stays_kept w k text n ∙ rest.nodes n x e
 nodes_still (MakeOpen o z) w q rest n x e =
     still_there (MakeOpen o z) w q n refl refl (λ i. i) (held_more w (edit_task o.task.0 (named 1) w.tasks) n ((still o.task.0 (named 1) w.tasks (λ y r h. h)).named n)) (rest.nodes n x e)
@@ -311,21 +303,16 @@ quiet_keeps : (c : Change) (w : World) → IsQuiet w c → KeepsNodes w c
 quiet_keeps (MakeOpen o z) w q = absurd q
 quiet_keeps c w q = q
 
-opens_rest : (c : Change) (w : World) → IsQuiet w c → IsSettled (ports_of w) → IsSettled (ports_of (apply c w))
-opens_rest (MakeNode n s node) w q settled = λ o z e. (still n.task.0 (named 1) w.tasks (λ x r h. h)).held o (settled o z e)
-opens_rest (EditOpen k f) w q settled = λ o z e. elim (was_edited w.opens k o f z e) [ inl l ↦ rw (l.0) (settled k l.1 l.2) | inr h ↦ settled o z h ]
-opens_rest (EditTask t f) w q settled = λ o z e. (still t f w.tasks q).held o (settled o z e)
-opens_rest (Send r t) w q settled = λ o z e. (still t (with_sent r) w.tasks (sent_keeps r)).held o (settled o z e)
-opens_rest (EditHeader n f) w q settled = settled
-opens_rest (EditBody n g) w q settled = settled
-opens_rest (SetText s text) w q settled = settled
-opens_rest c w q settled = absurd q
+quiet_held : (c : Change) (w : World) → IsQuiet w c → KeepsHeld c
+quiet_held (EditTask q f) w quiet = λ x r i. quiet x (Io r) i
+quiet_held (MakeOpen o z) w quiet = quiet
+quiet_held c w quiet = tt
 
 pub rests_quiet : (cs : List Change) (w : World) → AreQuiet w cs → Rests w cs
 rests_quiet [] w q rest = rest
 rests_quiet (c ∷ cs) w q rest =
     let n = nodes_rest c w (quiet_keeps c w q.0) (nodes_of_rest rest) in
-    rests_quiet cs (apply c w) q.1 (record { nodes = n.nodes; servers = n.servers; opens = opens_rest c w q.0 rest.opens })
+    rests_quiet cs (apply c w) q.1 (record { nodes = n.nodes; servers = n.servers; opens = held_one c w (quiet_held c w q.0) rest.opens })
 
 -- a new open, which the new right holds
 module _ (w : World) (t : ℕ) (x : Task) (is : task_at w t ≡ Some x) (n : Name) (ids : IdSets) (parents : List Pair) (modes : OpenFlags) where
@@ -348,15 +335,19 @@ module _ (w : World) (t : ℕ) (x : Task) (is : task_at w t ≡ Some x) (n : Nam
   old_names : NameMore w.tasks new_tasks
   old_names = still_more (still t (named 1) w.tasks (λ y q k. k)) (still t (with_port (new_right t n ids parents x)) (edit_task t (named 1) w.tasks) (port_keeps (new_right t n ids parents x)))
 
-  pub rests_opening : Rests w (porting t x n ids parents modes)
+  -- and so each open is held yet
+  pub held_opening : IsSettled (ports_of w) → IsSettled (ports_of (apply_all (opening t x n ids parents modes) w))
+  held_opening held = λ o z e. elim (was w.opens (fresh t x) o (new_open n modes) z e) [
+    | inl new ↦ subst (λ k. is_held new_tasks k ≡ true) (sym new.0) new_held
+    | inr old ↦ old_names.held o (held o z old.1)
+  ]
+
+  pub rests_opening : Rests w (opening t x n ids parents modes)
   rests_opening rest =
-      let k = nodes_rest (EditTask t (with_port (new_right t n ids parents x))) (apply (MakeOpen (fresh t x) (new_open modes)) w) (port_keeps (new_right t n ids parents x))
-      (nodes_rest (MakeOpen (fresh t x) (new_open modes)) w tt (nodes_of_rest rest)) in
+      let k = nodes_rest (EditTask t (with_port (new_right t n ids parents x))) (apply (MakeOpen (fresh t x) (new_open n modes)) w) (port_keeps (new_right t n ids parents x))
+      (nodes_rest (MakeOpen (fresh t x) (new_open n modes)) w tt (nodes_of_rest rest)) in
       record {
         nodes = k.nodes;
         servers = k.servers;
-        opens = λ o z e. elim (was w.opens (fresh t x) o (new_open modes) z e) [
-          | inl new ↦ subst (λ k. is_held new_tasks k ≡ true) (sym new.0) new_held
-          | inr old ↦ old_names.held o (rest.opens o z old.1)
-        ];
+        opens = held_opening rest.opens;
       }

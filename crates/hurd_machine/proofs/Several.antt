@@ -1,7 +1,7 @@
 -- Changes one after another, settling among them: they show the same in worlds that agree.
 use Rattle.std.proofs.Common.{Some, ◌≡◌, ℕ, Bool, false, List, [], ◌∷◌, Option, sym, refl, ◌∙◌, ap, ap₂, subst, inl, inr}
 use Rattle.hurd_machine.proofs.Faces.{face_in, text_in}
-use Rattle.hurd_machine.proofs.Common.{ABody, AUsers, AnEmpty, AnOpen, AnOptions, AttrOf, Below, BodyOf, Change, Coherent, Control, EmptyOf, Io, IsAmong, Linked, Name, Node, OpenOf, OptionsOf, Part, Right, Settle, Start, Task, TaskOf, TextOf, AText, UsersOf, World, apply, apply_all, holders, names_open, part, rights_of, task_at, users}
+use Rattle.hurd_machine.proofs.Common.{ABody, AUsers, AnEmpty, AnOpen, AnOptions, AttrOf, Below, BodyOf, Change, Coherent, Control, EmptyOf, Io, IsAmong, Linked, Name, Node, OpenOf, OptionsOf, Part, Right, Settle, Start, Task, TaskOf, TextOf, AText, UsersOf, World, apply, apply_all, holders, names_open, part, rights_of, task_at, users, EndsOf, AnEnds}
 use Rattle.hurd_creds.proofs.NameLaws.{same_name-apart}
 use Rattle.hurd_machine.specs.World.{nodes_of}
 use Rattle.hurd_machine.specs.Change.{settle}
@@ -10,7 +10,8 @@ use Rattle.hurd_machine.proofs.Nodes.{attr_same, header_in, body_in, empty_in}
 use Rattle.hurd_machine.proofs.Tasks.{count_alike}
 use Rattle.hurd_machine.proofs.ServerParts.{none_counted, unused}
 use Rattle.hurd_machine.proofs.Comes.{none_served}
-use Rattle.hurd_machine.proofs.Coherence.{right_old, no_node, no_open, no_server, Proper, AllProper, no_site}
+use Rattle.hurd_machine.proofs.Coherence.{right_old, no_home, no_node, no_open, no_server, Proper, AllProper, no_site}
+use Rattle.hurd_machine.proofs.Ends.{ends_gone}
 use Rattle.hurd_machine.proofs.Keeping.{coherent_one}
 use Rattle.hurd_machine.proofs.Frame.{IsExact, length_one}
 use Rattle.hurd_machine.proofs.Settle.{settle_agrees}
@@ -47,6 +48,7 @@ new_same {S} {v} {w} cv cw a (AttrOf n) new =
     attr_same (ap header_in (no_node cw n out ∙ sym (no_node cv n new.1))) (no_site cw n out ∙ sym (no_site cv n new.1))
 new_same cv cw a (EmptyOf n) new = ap (λ (o : Option Node). AnEmpty (empty_in o)) (no_node cw n (new_there a n new) ∙ sym (no_node cv n new.1))
 new_same cv cw a (BodyOf n) new = ap (λ (o : Option Node). ABody (body_in o)) (no_node cw n (new_there a n new) ∙ sym (no_node cv n new.1))
+new_same {S} {v} {w} cv cw a (EndsOf n) new = ap AnEnds (ends_gone w n (no_home cw n (new_there a n new)) ∙ sym (ends_gone v n (no_home cv n new.1)))
 new_same {S} {v} {w} cv cw a (OpenOf o) new =
     let out = new_there a o new in
     ap₂ AnOpen (no_open cw o out ∙ sym (no_open cv o new.1)) (no_holders w cw o out ∙ sym (no_holders v cv o new.1))

@@ -1,7 +1,7 @@
 -- What a set of tasks sees is settled by the parts that it sees: where those are the same in two worlds, it sees the same
 -- parts in both.
 use Rattle.std.proofs.Common.{List, ◌≡◌, inl, inr, ℕ, Bool, true, Some, sym, refl, ◌∙◌, ap, length, Option, None}
-use Rattle.hurd_machine.proofs.Common.{Active, Allowed, AttrOf, BodyOf, ByBody, ByControl, ByNode, ByParent, BySeat, Child, Control, Could, CouldServe, EmptyOf, Exec, GidOfRight, GidOfTask, HasGid, HasUid, Header, Holds, IdSets, Io, IoRight, IsOpen, Knows, Name, OfControl, OfNode, OfSeat, OpenOf, OptionsOf, Owns, Part, Pending, Read, Right, SameView, Seen, Sees, SeesBody, SeesEmpty, Sends, ServerInfo, ServerRoot, Start, Taken, Target, TaskOf, SeesText, TextOf, InRoot, ToControl, with_text, ToPut, ToRead, ToSearch, UidOfRight, UidOfTask, UsersOf, Want, Way, World, Write, active_at, body_at, counts_at, counts_by, entry_of, header_at, home_at, info_in, open_at, part, server_at, task_at, tells}
+use Rattle.hurd_machine.proofs.Common.{Active, Allowed, AttrOf, BodyOf, ByBody, ByControl, ByNode, ByParent, BySeat, Child, Control, Could, CouldServe, EmptyOf, Exec, GidOfRight, GidOfTask, HasGid, HasUid, Header, Holds, IdSets, Io, IoRight, IsOpen, Knows, Name, OfControl, OfNode, OfSeat, OpenOf, OptionsOf, Owns, Part, Pending, Read, Right, SameView, Seen, Sees, SeesBody, SeesEmpty, Sends, ServerInfo, ServerRoot, Start, Taken, Target, TaskOf, SeesText, TextOf, InRoot, ToControl, with_text, ToPut, ToRead, ToSearch, UidOfRight, UidOfTask, UsersOf, Want, Way, World, Write, active_at, body_at, counts_at, counts_by, entry_of, header_at, home_at, info_in, open_at, part, server_at, task_at, tells, EndsOf, SeesInside}
 use Rattle.hurd_machine.specs.Sight.{Root, Held, Controlled, Parent}
 use Rattle.hurd_machine.proofs.Faces.{face_in, face_reads, of_face, none_faced, reads_same, whole}
 
@@ -144,10 +144,14 @@ module _ (S : ℕ → Bool) (v w : World) (tasks : SameTasks S v w) (equal : (p 
   SeesText-moved s i text (InRoot reads sn en h eh body) =
       let sn' = Seen-moved i.root sn in InRoot (reads_same i.kind i.text text ∙ reads) sn' (home_moved sn sn' en) h (header_moved sn sn' eh) (SeesBody-moved i.root h sn body)
 
+  inside_moved : (n : Name) → SeesInside S v n → SeesInside S w n
+  inside_moved n s = let s' = Seen-moved n s.0 in (s', s.1, header_moved s.0 s' s.2, SeesBody-moved n s.1 s.0 s.3)
+
   Sees-moved : (p : Part) → Sees S v p → Sees S w p
   Sees-moved (AttrOf n) s = Seen-moved n s
   Sees-moved (EmptyOf n) s = let s' = Seen-moved n s.0 in (s', s.1, header_moved s.0 s' s.2, s.3, SeesEmpty-moved n s.1 s.0 s.2 s.4)
-  Sees-moved (BodyOf n) s = let s' = Seen-moved n s.0 in (s', s.1, header_moved s.0 s' s.2, SeesBody-moved n s.1 s.0 s.3)
+  Sees-moved (BodyOf n) s = inside_moved n s
+  Sees-moved (EndsOf n) s = (counts_moved n s.1.0 (Seen-moved n s.1.0) ∙ s.0, inside_moved n s.1)
   Sees-moved (OpenOf o) s = (s.0, held (Io s.0) s.1, s.2)
   Sees-moved (OptionsOf q) s = Knows-moved q s
   Sees-moved (TextOf q) s =

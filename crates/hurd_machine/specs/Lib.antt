@@ -6,4 +6,3 @@ pub mod Handle
 pub mod Sight
 pub mod Touched
 pub mod Sound
-pub mod Counted

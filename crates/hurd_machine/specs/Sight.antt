@@ -17,13 +17,14 @@ use Rattle.hurd_nodes.specs.declared.seat.Site.{Site}
 use Rattle.hurd_creds.specs.NameMaps.{NameMap}
 use Rattle.hurd_nodes.specs.Held.{home_in, is_home}
 use Rattle.hurd_nodes.specs.Shown.{ServerInfo, boot_name, with_text}
+use Rattle.hurd_ports.specs.declared.table.Ends.{Ends}
 use Rattle.hurd_ports.specs.declared.table.Opened.{Opened}
 use Rattle.hurd_ports.specs.declared.parents.Parent.{Parent as Pair}
 use Rattle.hurd_ports.specs.declared.table.IoRight.{IoRight}
 use Rattle.hurd_ports.specs.declared.table.Right.{Right}
 use Rattle.hurd_ports.specs.declared.table.Right.TheVariants.{Io, Control, Start}
 use Rattle.hurd_ports.specs.Tables.{Task, rights_of, count_rights, names_open}
-use Rattle.hurd_machine.specs.World.{World, IsAmong, boot_root, task_at, open_at, header_at, body_at, site_at, home_at, active_at, counts_at, server_at}
+use Rattle.hurd_machine.specs.World.{World, IsAmong, boot_root, task_at, open_at, header_at, body_at, site_at, home_at, active_at, counts_at, ends_at, server_at}
 
 -- a node's attributes as far as its header says them
 abbrev pub bare : Header → Attrs
@@ -117,13 +118,14 @@ pub data Part : Type 0 where
   AttrOf : Name → Part  -- a node's server, the one active on it, and its attributes, but whether it is empty
   EmptyOf : Name → Part  -- whether a directory is empty
   BodyOf : Name → Part  -- a node's bytes or entries
+  EndsOf : Name → Part  -- how many opens read a node, and how many write it, where its server is told
   OpenOf : Name → Part  -- an open, and how many rights hold it
   OptionsOf : Name → Part  -- a server, but for its text, unless that is a link's
   TextOf : Name → Part  -- the text of a server
   UsersOf : Name → Part  -- how many rights there are on a server's nodes
   TaskOf : ℕ → Part  -- a task
 
--- whether an open with these modes tells what is in a node, whose server counts who reads and who writes or doesn't
+-- whether an open with these modes tells what is in a node, whose server is told who reads and who writes or isn't
 abbrev pub tells : Bool → OpenFlags → Bool
 tells counts modes = asks modes READ || (counts && asks modes WRITE)
 
@@ -146,11 +148,16 @@ pub data SeesText (S : ℕ → Bool) (w : World) (s : Name) (i : ServerInfo) : T
   ToControl : Sends S w s i → SeesText S w s i
   InRoot : reads_text (root_of i.kind i.text) ≡ true → Seen S w i.root → home_at w i.root ≡ Some s → (h : Header) → header_at w i.root ≡ Some h → SeesBody S w i.root h → SeesText S w s i
 
+-- S sees what is in a node
+abbrev pub SeesInside : (ℕ → Bool) → World → Name → Type 0
+SeesInside S w n = Seen S w n × (h : Header) × (header_at w n ≡ Some h) × SeesBody S w n h
+
 -- the parts that S sees
 abbrev pub Sees : (ℕ → Bool) → World → Part → Type 0
 Sees S w (AttrOf n) = Seen S w n
 Sees S w (EmptyOf n) = Seen S w n × (h : Header) × (header_at w n ≡ Some h) × (h.kind ≡ Dir) × SeesEmpty S w n h
-Sees S w (BodyOf n) = Seen S w n × (h : Header) × (header_at w n ≡ Some h) × SeesBody S w n h
+Sees S w (BodyOf n) = SeesInside S w n
+Sees S w (EndsOf n) = (counts_at w n ≡ true) × SeesInside S w n
 Sees S w (OpenOf o) = (r : IoRight) × Holds S w (Io r) × (r.open_name ≡ o)
 Sees S w (OptionsOf s) = Knows S w s
 Sees S w (TextOf s) = (i : ServerInfo) × (server_at w s ≡ Some i) × SeesText S w s i
@@ -188,6 +195,7 @@ pub data Value : Type 0 where
   AnAttr : Option Header → Option Site → Value
   AnEmpty : Option Bool → Value
   ABody : Option Body → Value
+  AnEnds : Option Ends → Value
   AnOpen : Option Opened → ℕ → Value
   AnOptions : Option ServerInfo → Value
   AText : Option (List ℕ) → Value
@@ -199,6 +207,7 @@ abbrev pub part : World → Part → Value
 part w (AttrOf n) = AnAttr (header_at w n) (site_at w n)
 part w (EmptyOf n) = AnEmpty (option_map is_empty_dir (body_at w n))
 part w (BodyOf n) = ABody (body_at w n)
+part w (EndsOf n) = AnEnds (ends_at w n)
 part w (OpenOf o) = AnOpen (open_at w o) (holders w o)
 part w (OptionsOf s) = AnOptions (option_map faced (server_at w s))
 part w (TextOf s) = AText (option_map (λ (i : ServerInfo). i.text) (server_at w s))
@@ -210,6 +219,7 @@ abbrev pub IsGone : World → Part → Type 0
 IsGone w (AttrOf n) = part w (AttrOf n) ≡ AnAttr None None
 IsGone w (EmptyOf n) = part w (EmptyOf n) ≡ AnEmpty None
 IsGone w (BodyOf n) = part w (BodyOf n) ≡ ABody None
+IsGone w (EndsOf n) = part w (EndsOf n) ≡ AnEnds None
 IsGone w (OptionsOf s) = part w (OptionsOf s) ≡ AnOptions None
 IsGone w (TextOf s) = part w (TextOf s) ≡ AText None
 IsGone w p = ⊥

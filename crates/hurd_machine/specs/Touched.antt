@@ -6,7 +6,7 @@ use Rattle.hurd_trans_iface.specs.Behaviour.{Did}
 use Rattle.hurd_ports.specs.declared.table.Right.{Right}
 use Rattle.hurd_ports.specs.declared.table.Right.TheVariants.{Io, Control, Start}
 use Rattle.hurd_machine.specs.World.{World, home_at, active_at, counts_at}
-use Rattle.hurd_machine.specs.Sight.{Part, AttrOf, EmptyOf, BodyOf, OpenOf, OptionsOf, TextOf, UsersOf}
+use Rattle.hurd_machine.specs.Sight.{Part, AttrOf, EmptyOf, BodyOf, EndsOf, OpenOf, OptionsOf, TextOf, UsersOf}
 
 -- the parts that follow from what a call asks; a refused call touches none
 unfoldable pub asked_parts : {A : Type 0} → Result A Errno → (A → Part → Type 0) → Part → Type 0
@@ -27,17 +27,17 @@ OnRight w (Io r) p = (p ≡ OpenOf r.open_name) ⊎ OnNode w r.node p
 OnRight w (Control s) p = ⊥
 OnRight w (Start n) p = ⊥
 
--- how often a node is open, where its server counts that
-abbrev pub OnCount : World → Name → Part → Type 0
-OnCount w n p = (counts_at w n ≡ true) × (p ≡ AttrOf n)
+-- how often a node is open, where its server is told
+abbrev pub OnEnds : World → Name → Part → Type 0
+OnEnds w n p = (counts_at w n ≡ true) × (p ≡ EndsOf n)
 
 -- a node is opened
 abbrev pub OnOpen : World → Name → Part → Type 0
-OnOpen w n p = OnNode w n p ⊎ OnCount w n p
+OnOpen w n p = OnNode w n p ⊎ OnEnds w n p
 
 -- a right goes, and with it maybe its open
 abbrev pub OnDrop : World → Right → Part → Type 0
-OnDrop w (Io r) p = OnRight w (Io r) p ⊎ OnCount w r.node p
+OnDrop w (Io r) p = OnRight w (Io r) p ⊎ OnEnds w r.node p
 OnDrop w q p = OnRight w q p
 
 -- a server goes with its nodes, and leaves its seat
@@ -45,6 +45,7 @@ abbrev pub Goes : World → Name → Part → Type 0
 Goes w s (AttrOf n) = (home_at w n ≡ Some s) ⊎ (active_at w n ≡ Some s)
 Goes w s (EmptyOf n) = home_at w n ≡ Some s
 Goes w s (BodyOf n) = home_at w n ≡ Some s
+Goes w s (EndsOf n) = home_at w n ≡ Some s
 Goes w s (OptionsOf q) = q ≡ s
 Goes w s (TextOf q) = q ≡ s
 Goes w s (UsersOf q) = q ≡ s

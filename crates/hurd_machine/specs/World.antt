@@ -1,5 +1,5 @@
 -- The world as a value, and what is read of it.
-use Rattle.std.specs.Prelude.{◌≡◌, ◌⊎◌, ◌&&◌, not, is_some, ℕ, Bool, true, false, List, [], ◌∷◌, Option, Some, None, Result, slice_get}
+use Rattle.std.specs.Prelude.{◌≡◌, ◌⊎◌, ◌&&◌, not, is_some, if◌then◌else◌, ℕ, Bool, true, false, List, [], ◌∷◌, Option, Some, None, Result, slice_get}
 use Rattle.std.specs.List.{list_any}
 use Rattle.std.specs.Option.{option_map}
 use Rattle.std.specs.FinMap.{get}
@@ -10,7 +10,6 @@ use Rattle.hurd_creds.specs.declared.errno.Errno.{Errno}
 use Rattle.hurd_creds.specs.NameMaps.{NameMap}
 use Rattle.hurd_creds.specs.Names.{same_name}
 use Rattle.hurd_trans_iface.specs.Nodes.{NodeMap, Node, Entry, Header, Body, Content, Listing}
-use Rattle.hurd_trans_iface.specs.declared.header_edit.HeaderEdit.{HeaderEdit}
 use Rattle.hurd_trans_iface.specs.declared.root.Root.{Root}
 use Rattle.hurd_trans_iface.specs.Answers.{leads_away}
 use Rattle.hurd_trans_iface.specs.Behaviour.{Question, Effect}
@@ -18,9 +17,10 @@ use Rattle.hurd_trans_iface.specs.Meaning.{root_of}
 use Rattle.hurd_nodes.specs.declared.seat.Site.{Site}
 use Rattle.hurd_nodes.specs.Held.{active_in, home_in}
 use Rattle.hurd_nodes.specs.Needs.{counts_by, streams_by}
-use Rattle.hurd_nodes.specs.Shown.{NodeState, ServerInfo, boot_name, is_root, server_of, effect_at, readable_at as readable_of, can_make, can_link, can_unlink, can_rename, can_set_attrs, can_edit_header}
+use Rattle.hurd_nodes.specs.Shown.{NodeState, ServerInfo, boot_name, is_root, server_of, effect_at, readable_at as readable_of, can_make, can_link, can_unlink, can_rename, can_set_attrs}
 use Rattle.hurd_ports.specs.declared.table.Opened.{Opened}
-use Rattle.hurd_ports.specs.Tables.{PortState, OpenMap, Task}
+use Rattle.hurd_ports.specs.declared.table.Ends.{Ends}
+use Rattle.hurd_ports.specs.Tables.{PortState, OpenMap, Task, ends_of}
 
 -- nodes by name; of each node its site: its server, and the one that is active on it; servers, opens, and the tasks in order
 pub record World : Type 0 where
@@ -150,9 +150,29 @@ readable_at w n at = count_in (readable_of n at (nodes_of w))
 abbrev pub stream_at : World → Name → Bool
 stream_at w n = streams_by (info_at w n)
 
--- whether a node's server is there, and counts who reads and who writes
+-- whether a node's server is there, and is told how many opens read and write the node
 abbrev pub counts_at : World → Name → Bool
 counts_at w n = counts_by (info_at w n)
+
+-- how many opens read a node, and how many write it, where its server is told
+abbrev pub ends_at : World → Name → Option Ends
+ends_at w n = if counts_at w n then Some (ends_of w.opens n) else None
+
+-- what a server is told of them when its node is read, and when it is written: it isn't told of any, and there are none
+
+abbrev pub writers_in : Option Ends → ℕ
+writers_in None = 0
+writers_in (Some e) = e.writers
+
+abbrev pub readers_in : Option Ends → ℕ
+readers_in None = 0
+readers_in (Some e) = e.readers
+
+abbrev pub writers_at : World → Name → ℕ
+writers_at w n = writers_in (ends_at w n)
+
+abbrev pub readers_at : World → Name → ℕ
+readers_at w n = readers_in (ends_at w n)
 
 -- whether a node of a kind may be made in a directory, under a name or without an entry
 abbrev pub makes_at : World → Name → Option (List ℕ) → Kind → Result (Unit {0}) Errno
@@ -173,10 +193,6 @@ renames_at w d name e = can_rename d name e (nodes_of w)
 -- whether owner, group and mode of a node may be set
 abbrev pub sets_attrs_at : World → Name → Result (Unit {0}) Errno
 sets_attrs_at w n = can_set_attrs n (nodes_of w)
-
--- whether the header of a node may be edited so
-abbrev pub edits_header_at : World → Name → HeaderEdit → Result (Unit {0}) Errno
-edits_header_at w n e = can_edit_header n e (nodes_of w)
 
 -- whether a body has an entry for a node
 

@@ -1,5 +1,5 @@
 -- Those that need not be asked stay calm where a box changes, if no node of it loses its entries.
-use Rattle.std.proofs.Common.{arith, ◌≡◌, ◌≢◌, ◌≤◌, inl, inr, ℕ, Bool, true, false, cond, List, [], ◌∷◌, refl, sym, subst, ap, ◌∙◌, true≢false}
+use Rattle.std.proofs.Common.{arith, ◌≡◌, ◌≢◌, ◌≤◌, inl, inr, ℕ, Bool, true, false, cond, List, [], ◌∷◌, sym, subst, ap, ◌∙◌, true≢false}
 use Rattle.std.proofs.lemmas.Bool.{and_parts, or_cases}
 use Rattle.std.proofs.lemmas.Grind.{common_steps}
 use Rattle.std.specs.List.{list_all}
@@ -12,14 +12,14 @@ use Rattle.hurd_creds.specs.declared.name.Name.{Name}
 use Rattle.hurd_creds.specs.declared.mode.Mode.{Mode}
 use Rattle.hurd_creds.specs.declared.errno.Errno.{Errno}
 use Rattle.hurd_creds.specs.Names.{name_cmp, same_name}
-use Rattle.hurd_creds.specs.NameMaps.{NameMap, edit, map_values}
+use Rattle.hurd_creds.specs.NameMaps.{edit, map_values}
 use Rattle.hurd_creds.specs.Memory.{Steps, lacks_memory}
 use Rattle.hurd_creds.proofs.NameLaws.{equal_if_same, same_or_apart, edit_here, edit_apart, get_apart, remove_here, remove_apart}
 use Rattle.hurd_creds.proofs.MapLaws.{get-map_values}
 use Rattle.hurd_trans_iface.specs.declared.header_edit.HeaderEdit.{HeaderEdit}
-use Rattle.hurd_trans_iface.specs.declared.header_edit.HeaderEdit.TheVariants.{SetAttrs, SetPassive, CountOpen, CountClose}
-use Rattle.hurd_trans_iface.specs.Nodes.{AddNode, Edit, Header, Node, NodeMap, OnBody, OnHeader, edit_all, is_dir, is_entered, is_entered_at, is_listed, linked, with_body, with_header, with_size}
-use Rattle.hurd_trans_iface.specs.Answers.{edits_if, header_after, header_edits, link_edits}
+use Rattle.hurd_trans_iface.specs.declared.header_edit.HeaderEdit.TheVariants.{SetAttrs, SetPassive}
+use Rattle.hurd_trans_iface.specs.Nodes.{AddNode, Edit, Header, Node, NodeMap, OnBody, OnHeader, edit_all, is_entered, is_entered_at, is_listed, linked, with_body, with_header, with_size}
+use Rattle.hurd_trans_iface.specs.Answers.{edits_if, header_edits, link_edits}
 use Rattle.hurd_trans_iface.specs.Behaviour.{Effect, Question, edit_bytes, edit_size, edits_of, effect_on}
 use Rattle.hurd_trans_iface.specs.Meaning.{Meaning, begin_root_after, behaviour_of, edited, forget_after, new_root, options_taken, set_options_step, size_of, step_of}
 use Rattle.hurd_nodes.specs.declared.seat.Seat.{Seat}
@@ -94,8 +94,6 @@ keeps-asked q n m k got steps = let e = effect_on q (behaviour_of m.kind) m.text
 header-keeps : (n : Name) (e : HeaderEdit) → KeepAll (header_edits n e)
 header-keeps n (SetAttrs owner group mode) = (λ h bare. bare, tt)
 header-keeps n (SetPassive words) = (λ h bare. bare, tt)
-header-keeps n (CountOpen modes) = (λ h bare. bare, tt)
-header-keeps n (CountClose modes) = (λ h bare. bare, tt)
 
 pub keeps-header : (n : Name) (e : HeaderEdit) (m k : Meaning) (answer got : Result (Unit {0}) Errno)
     → ◌≡◌ {A = Result (Unit {0}) Errno × Meaning} (got, k) (answer, edited (edits_if answer (header_edits n e)) m) → KeepsEntries m k

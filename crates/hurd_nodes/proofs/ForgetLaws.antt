@@ -14,11 +14,11 @@ use Rattle.hurd_trans_iface.specs.Nodes.{Node, NodeMap}
 use Rattle.hurd_trans_iface.specs.Meaning.{Meaning}
 use Rattle.hurd_nodes.specs.declared.seat.Site.{Site}
 use Rattle.hurd_nodes.specs.Held.{Seated, box_by, home_in, new_site}
-use Rattle.hurd_nodes.specs.Shown.{NodeState, ServerInfo, are_kin, attached, flat, forgotten, forgotten_elsewhere, is_other, node_in, nodes_of, servers_of, without_old, without_sites}
+use Rattle.hurd_nodes.specs.Shown.{NodeState, ServerInfo, are_kin, attached, flat, forgotten, forgotten_elsewhere, is_other, node_in, nodes_of, without_old, without_sites}
 use Rattle.hurd_nodes.proofs.HideLaws.{AreBare, TellsAll, has}
 use Rattle.hurd_nodes.proofs.PartLaws.{get-kept, mapped-some}
 use Rattle.hurd_nodes.proofs.ShownLaws.{get-nodes, kin-home}
-use Rattle.hurd_nodes.proofs.Sites.{home-apart, home-here}
+use Rattle.hurd_nodes.proofs.Sites.{home-here}
 use Rattle.hurd_nodes.proofs.TakeLaws.{forget, other_by, servers-same}
 
 module _ (sites : NameMap Site) (seats : NameMap (Seated Meaning)) (tells : TellsAll sites seats) (n : Name) where

@@ -1,6 +1,6 @@
 -- What `Nodes` keeps to, where a server's box is another, and where seats change places.
-use Rattle.std.proofs.Common.{◌≡◌, ◌≢◌, ℕ, List, refl, sym, subst, ap, ◌∙◌}
-use Rattle.std.specs.Prelude.{Option, Some, slice_get}
+use Rattle.std.proofs.Common.{◌≡◌, ℕ, List, refl, sym, subst}
+use Rattle.std.specs.Prelude.{Some, slice_get}
 use Rattle.std.specs.Map.{values_of}
 use Rattle.std.specs.FinMap as fin
 use Rattle.indexmap.specs.IndexMap.{set_value_at}
@@ -9,7 +9,7 @@ use Rattle.hurd_creds.specs.NameMaps.{NameMap, place_by}
 use Rattle.hurd_trans_iface.specs.Meaning.{Meaning}
 use Rattle.hurd_nodes.specs.declared.seat.Seat.{Seat}
 use Rattle.hurd_nodes.specs.declared.seat.Site.{Site}
-use Rattle.hurd_nodes.specs.Held.{AreApart, Held, Seated, box_by, held_of, home_in, mean, place_in, put_by, seat_key, seat_value, seats_of, sites_of, with_seats, with_server_of}
+use Rattle.hurd_nodes.specs.Held.{AreApart, Held, Seated, box_by, held_of, home_in, mean, place_in, put_by, seat_key, seat_value, seats_of, sites_of, with_server_of}
 use Rattle.hurd_nodes.specs.Quiet.{AreAmong, AreCalm, AreForeign, AreOld, Behind}
 use Rattle.hurd_nodes.specs.Shown.{HideNothing, without_server}
 use Rattle.hurd_nodes.specs.Aims.{AreAims}

@@ -17,7 +17,7 @@ use hurd_trans_iface::{HeaderEdit, NewNode, Server, Words};
 use std::alloc::Global;
 
 impl<S: Server> Nodes<S> {
-    /// At most `amount` bytes of a node from `at` on; where there are none, no memory is taken.
+    /// At most `amount` bytes of a node from `at` on, where so many opens write it; where there are none, no memory is taken.
     ///
     /// Errors, in order: `EDIED` no such node, the server's own refusals, `ENOMEM`.
     #[tactic(auto, using(crate::proofs::ShownLaws::refusals, crate::proofs::SeatLaws::boxes))]
@@ -27,30 +27,37 @@ impl<S: Server> Nodes<S> {
         node: NodeName,
         at: u64,
         amount: u64,
+        writers: u128,
     ) -> Result<Bytes, Errno>
         ensures shown { let h = shown S.meaning self.old in
-            Steps h (asked_step (reading at amount) node h) result (shown S.meaning self.new) }
+            Steps h (asked_step (reading at amount writers) node h) result (shown S.meaning self.new) }
         ensures free { let h = shown S.meaning self.old in
-            FreeRead at amount node h → result ≡ (asked_step (reading at amount) node h).0 }
+            FreeRead at amount writers node h → result ≡ (asked_step (reading at amount writers) node h).0 }
     {
         match place_of_server(&self.sites, &self.seats, node) {
-            Some(i) => self.seats[i].server.read(alloc, node, at, amount),
+            Some(i) => self.seats[i].server.read(alloc, node, at, amount, writers),
             None => Err(Errno::EDIED),
         }
     }
 
-    /// Puts bytes into a node at `at`, and answers how many. Takes no memory where there is no data, where the bytes that are written over are there, and in a stream.
+    /// Puts bytes into a node at `at`, where so many opens read it, and answers how many. Takes no memory where there is no data, where the bytes that are written over are there, and in a stream.
     ///
     /// Errors, in order: `EDIED` no such node, the server's own refusals, `ENOMEM`.
     #[tactic(auto, using(crate::proofs::ShownLaws::refusals, crate::proofs::SeatLaws::boxes))]
-    pub fn write(&mut self, node: NodeName, at: u64, bytes: &[u8]) -> Result<u64, Errno>
+    pub fn write(
+        &mut self,
+        node: NodeName,
+        at: u64,
+        bytes: &[u8],
+        readers: u128,
+    ) -> Result<u64, Errno>
         ensures shown { let h = shown S.meaning self.old in
-            Steps h (asked_step (writing at bytes.now) node h) result (shown S.meaning self.new) }
+            Steps h (asked_step (writing at bytes.now readers) node h) result (shown S.meaning self.new) }
         ensures free { let h = shown S.meaning self.old in
-            FreeWrite at bytes.now node h → result ≡ (asked_step (writing at bytes.now) node h).0 }
+            FreeWrite at bytes.now node h → result ≡ (asked_step (writing at bytes.now readers) node h).0 }
     {
         match place_of_server(&self.sites, &self.seats, node) {
-            Some(i) => self.seats[i].server.write(node, at, bytes),
+            Some(i) => self.seats[i].server.write(node, at, bytes, readers),
             None => Err(Errno::EDIED),
         }
     }
@@ -161,7 +168,7 @@ impl<S: Server> Nodes<S> {
 
     /// Edits what the header of a node says. Whether words may be stored with the node is for who asks. Takes no memory.
     ///
-    /// Errors, in order: `EDIED` no such node, `EOPNOTSUPP` its server makes no such edit.
+    /// Errors, in order: `EDIED` no such node, `EOPNOTSUPP` its server keeps no tree.
     #[tactic(auto, using(crate::proofs::ShownLaws::refusals, crate::proofs::SeatLaws::boxes))]
     pub fn edit_header(&mut self, node: NodeName, edit: HeaderEdit) -> Result<(), Errno>
         ensures shown { (result, shown S.meaning self.new) ≡ edit_header_at node edit (shown S.meaning self.old) }

@@ -288,7 +288,7 @@ impl<S: Server> Nodes<S> {
         }
     }
 
-    /// Whether a node's server is there, and counts who reads and who writes each of its nodes. Takes no memory.
+    /// Whether a node's server is there, and is told how many opens read and write each of its nodes. Takes no memory.
     #[tactic(auto, using(crate::proofs::ShownLaws::by_box))]
     pub fn counts(&self, node: NodeName) -> bool
         ensures { result ≡ counts_by (server_of (shown S.meaning self.now) node) }

@@ -5,6 +5,7 @@ use Rattle.hurd_creds.specs.declared.attrs.Kind.{Kind}
 use Rattle.hurd_creds.specs.declared.attrs.Kind.TheVariants.{File, Dir, Link, Fifo, Char}
 use Rattle.hurd_creds.specs.declared.name.Name.{Name}
 use Rattle.hurd_words.specs.Printing.{kind_letter, octal_digit, six_octal_digits, spaced}
+use Rattle.hurd_ports.specs.declared.table.Ends.{Ends}
 use Rattle.hurd_views.specs.Views.{row_at}
 use Rattle.hurd_views.specs.declared.rows.BodyRow.{BodyRow}
 use Rattle.hurd_views.specs.declared.rows.BodyRow.TheVariants as body
@@ -49,21 +50,22 @@ short_mode n =
     else if nat_lt n 4096 then octal_digit (n / 512) ∷ octal_digit (n / 64) ∷ octal_digit (n / 8) ∷ octal_digit n ∷ []
     else six_octal_digits n
 
--- how many opens read a pipe and how many write it
-abbrev pub ends_text : Attrs → List ℕ
-ends_text a = if kind_letter a.kind == 112 then codes "<br/>readers" ++ (spaced a.readers ++ (codes ", writers" ++ spaced a.writers)) else []
-
 -- the word behind a number of bytes
 abbrev pub bytes_word : ℕ → List ℕ
 bytes_word n = if n == 1 then codes " byte" else codes " bytes"
 
 -- the size of what is no directory
 abbrev pub size_text : Attrs → List ℕ
-size_text a = if kind_letter a.kind == 100 then [] else codes ", " ++ (decimal a.size ++ (bytes_word a.size ++ ends_text a))
+size_text a = if kind_letter a.kind == 100 then [] else codes ", " ++ (decimal a.size ++ bytes_word a.size)
 
 -- kind, mode, owner and group, and the size
 abbrev pub attrs_text : Titles → Attrs → List ℕ
 attrs_text t a = kind_letter a.kind ∷ (short_mode a.mode.0 ++ (32 ∷ (owner_text t a.owner ++ (58 ∷ (decimal a.group ++ size_text a)))))
+
+-- how many opens read a node and how many write it, where that is seen, and its server is told
+abbrev pub ends_text : Option (Option Ends) → List ℕ
+ends_text (Some (Some e)) = codes "<br/>readers" ++ (spaced e.readers ++ (codes ", writers" ++ spaced e.writers))
+ends_text _ = []
 
 -- a line with the first of some bytes
 abbrev pub font_text : List ℕ → List ℕ
@@ -78,6 +80,10 @@ bytes_line (b ∷ bs) = font_text (b ∷ bs)
 abbrev pub content_text : Option (Option BodyRow) → List ℕ
 content_text (Some (Some (body.Bytes bs))) = bytes_line bs
 content_text _ = []
+
+-- who reads and writes a node, and what is in it
+abbrev pub inside_text : Row → List ℕ
+inside_text x = ends_text x.ends ++ content_text x.body
 
 -- a line with these words of a passive translator
 abbrev pub italics_text : List (List ℕ) → List ℕ
@@ -102,20 +108,20 @@ abbrev pub box_end : Option Name → List ℕ
 box_end None = codes "\n"
 box_end (Some s) = codes " }\n"
 
--- the label of a node that is there: what it is called, its attributes, what is in it, and the words of its passive translator
-abbrev pub label_text : Titles → View → Name → NodeRow → Attrs → Option (Option BodyRow) → List ℕ
-label_text t v n r a b =
-    codes "<<b>" ++ (title_text v n r.home ++ (codes "</b><br/>" ++ (attrs_text t a ++ (content_text b ++ (passive_text r.words ++ codes ">")))))
+-- the label of a node that is there: what it is called, its attributes, what is seen in it, and the words of its passive translator
+abbrev pub label_text : Titles → View → Name → NodeRow → Attrs → Row → List ℕ
+label_text t v n r a x =
+    codes "<<b>" ++ (title_text v n r.home ++ (codes "</b><br/>" ++ (attrs_text t a ++ (inside_text x ++ (passive_text r.words ++ codes ">")))))
 
 -- how a node looks, by its attributes if it is there
-abbrev pub look_text : Titles → View → Mark → Name → NodeRow → Option Attrs → Option (Option BodyRow) → List ℕ
-look_text t v m n r None b = codes " [shape=box, style=\"filled,dashed\", label=<gone>];"
-look_text t v m n r (Some a) b = codes " [shape=" ++ (shape a.kind ++ (codes ", label=" ++ (label_text t v n r a b ++ (mark_style m ++ codes "];"))))
+abbrev pub look_text : Titles → View → Mark → Name → NodeRow → Option Attrs → Row → List ℕ
+look_text t v m n r None x = codes " [shape=box, style=\"filled,dashed\", label=<gone>];"
+look_text t v m n r (Some a) x = codes " [shape=" ++ (shape a.kind ++ (codes ", label=" ++ (label_text t v n r a x ++ (mark_style m ++ codes "];"))))
 
 -- a node in the box of its server, where the node is seen
-abbrev pub node_text : Titles → View → Mark → Name → Option NodeRow → Option (Option BodyRow) → List ℕ
-node_text t v m n None b = []
-node_text t v m n (Some r) b = box_text r.home ++ (node_name n ++ (look_text t v m n r r.attrs b ++ box_end r.home))
+abbrev pub node_text : Titles → View → Mark → Name → Option NodeRow → Row → List ℕ
+node_text t v m n None x = []
+node_text t v m n (Some r) x = box_text r.home ++ (node_name n ++ (look_text t v m n r r.attrs x ++ box_end r.home))
 
 -- whether a node's attributes are seen
 abbrev pub is_seen : View → Name → Bool

@@ -1,5 +1,5 @@
 -- A picture of all that some tasks see, with what others see.
-use Rattle.std.specs.Prelude.{ℕ, ◌++◌, List, [], ◌∷◌, Option, Some, None, codes, map}
+use Rattle.std.specs.Prelude.{ℕ, ◌++◌, List, [], Option, Some, None, codes, map}
 use Rattle.std.specs.List.{concat}
 use Rattle.hurd_creds.specs.declared.name.Name.{Name}
 use Rattle.hurd_creds.specs.declared.name.TaskId.{TaskId}
@@ -19,7 +19,7 @@ names_of v = map (λ e. e.0) v.rows
 -- what is drawn of a row: its node, its server, the arrows to its entries, and that to the root of the server that is active on it
 abbrev pub row_text : Titles → View → Option View → Name → Row → List ℕ
 row_text t v theirs n r =
-    node_text t v (mark_of theirs n) n r.attributes r.body ++ (served_text t v n r.server r.text ++ (listing_text v n r.body ++ active_text v n r.attributes))
+    node_text t v (mark_of theirs n) n r.attributes r ++ (served_text t v n r.server r.text ++ (listing_text v n r.body ++ active_text v n r.attributes))
 
 -- the same by a name
 abbrev pub drawn : Titles → View → Option View → Name → List ℕ

@@ -1,7 +1,7 @@
 //! A node in its server's box, and the arrows to its entries.
 ghost use Rattle.std.specs.Prelude.{◌≡◌, ◌++◌, option_copied, OnOk};
 ghost use Rattle.hurd_pictures.specs.Labels.{arrow_text};
-ghost use Rattle.hurd_pictures.specs.Nodes.{attrs_text, box_end, box_text, bytes_line, bytes_word, content_text, ends_text, entries_text, entry_text, font_text, is_seen, italics_text, label_text, listing_text, look_text, mark_in, mark_of, mark_style, name_at, node_text, passive_text, server_box, shape, short_mode, size_text, stub_text, unseen_text};
+ghost use Rattle.hurd_pictures.specs.Nodes.{attrs_text, box_end, box_text, bytes_line, bytes_word, content_text, ends_text, entries_text, entry_text, font_text, inside_text, is_seen, italics_text, label_text, listing_text, look_text, mark_in, mark_of, mark_style, name_at, node_text, passive_text, server_box, shape, short_mode, size_text, stub_text, unseen_text};
 
 use crate::bytes::{push_short, push_shown, push_text};
 use crate::names::{
@@ -10,6 +10,7 @@ use crate::names::{
 };
 use bitflags::Flags;
 use hurd_creds::{Attrs, Bytes, Kind, Mode, Name, NodeName, ServerName};
+use hurd_ports::Ends;
 use hurd_views::{BodyRow, EntryRow, NodeRow, Row, View};
 use hurd_words::printing::{kind_letter, octal_digit, push_long_number, push_mode};
 use std::alloc::AllocError;
@@ -101,19 +102,6 @@ fn push_short_mode(text: &mut Vec<u8>, mode: Mode) -> Result<(), AllocError>
     )
 }
 
-/// Adds how many opens read a pipe and how many write it.
-fn push_ends(text: &mut Vec<u8>, attrs: &Attrs) -> Result<(), AllocError>
-    ensures { OnOk result (text.new.items ≡ text.old.items ++ ends_text attrs.now) }
-{
-    if kind_letter(attrs.kind) != b'p' {
-        return Ok(());
-    }
-    push_text(text, b"<br/>readers")?;
-    push_long_number(text, attrs.readers)?;
-    push_text(text, b", writers")?;
-    push_long_number(text, attrs.writers)
-}
-
 /// The word behind a number of bytes.
 fn bytes_word(count: u64) -> &'static [u8]
     ensures { result.now ≡ bytes_word count }
@@ -130,8 +118,7 @@ fn push_size(text: &mut Vec<u8>, attrs: &Attrs) -> Result<(), AllocError>
     }
     push_text(text, b", ")?;
     push_count(text, attrs.size)?;
-    push_text(text, bytes_word(attrs.size))?;
-    push_ends(text, attrs)
+    push_text(text, bytes_word(attrs.size))
 }
 
 /// Adds a node's kind, mode, owner and group, and its size.
@@ -145,6 +132,19 @@ fn push_attrs(text: &mut Vec<u8>, titles: &Titles, attrs: &Attrs) -> Result<(), 
     text.push(b':')?;
     push_count(text, attrs.group as u64)?;
     push_size(text, attrs)
+}
+
+/// Adds how many opens read a node and how many write it, where that is seen.
+fn push_ends(text: &mut Vec<u8>, ends: Option<Option<Ends>>) -> Result<(), AllocError>
+    ensures { OnOk result (text.new.items ≡ text.old.items ++ ends_text ends) }
+{
+    let Some(Some(ends)) = ends else {
+        return Ok(());
+    };
+    push_text(text, b"<br/>readers")?;
+    push_long_number(text, ends.readers)?;
+    push_text(text, b", writers")?;
+    push_long_number(text, ends.writers)
 }
 
 /// Adds a line of a label with the first of some bytes.
@@ -174,6 +174,14 @@ fn push_content(text: &mut Vec<u8>, body: &Option<Option<BodyRow>>) -> Result<()
         Some(Some(BodyRow::Bytes(bytes))) => push_bytes_line(text, bytes.as_slice()),
         _ => Ok(()),
     }
+}
+
+/// Adds who reads and writes a node, and what is in it.
+fn push_inside(text: &mut Vec<u8>, row: &Row) -> Result<(), AllocError>
+    ensures { OnOk result (text.new.items ≡ text.old.items ++ inside_text row.now) }
+{
+    push_ends(text, row.ends)?;
+    push_content(text, &row.body)
 }
 
 /// Adds a line of a label with these words of a passive translator.
@@ -232,15 +240,15 @@ fn push_label_of(
     name: NodeName,
     node: &NodeRow,
     attrs: &Attrs,
-    body: &Option<Option<BodyRow>>,
+    row: &Row,
 ) -> Result<(), AllocError>
-    ensures { OnOk result (text.new.items ≡ text.old.items ++ label_text titles.now view.now name node.now attrs.now body.now) }
+    ensures { OnOk result (text.new.items ≡ text.old.items ++ label_text titles.now view.now name node.now attrs.now row.now) }
 {
     push_text(text, b"<<b>")?;
     push_title(text, view, name, node.home)?;
     push_text(text, b"</b><br/>")?;
     push_attrs(text, titles, attrs)?;
-    push_content(text, body)?;
+    push_inside(text, row)?;
     push_passive(text, node.words.as_slice())?;
     push_text(text, b">")
 }
@@ -253,9 +261,9 @@ fn push_look(
     mark: Mark,
     name: NodeName,
     node: &NodeRow,
-    body: &Option<Option<BodyRow>>,
+    row: &Row,
 ) -> Result<(), AllocError>
-    ensures { OnOk result (text.new.items ≡ text.old.items ++ look_text titles.now view.now mark name node.now node.now.attrs body.now) }
+    ensures { OnOk result (text.new.items ≡ text.old.items ++ look_text titles.now view.now mark name node.now node.now.attrs row.now) }
 {
     let Some(attrs) = &node.attrs else {
         return push_text(
@@ -266,7 +274,7 @@ fn push_look(
     push_text(text, b" [shape=")?;
     push_text(text, shape(attrs.kind))?;
     push_text(text, b", label=")?;
-    push_label_of(text, titles, view, name, node, attrs, body)?;
+    push_label_of(text, titles, view, name, node, attrs, row)?;
     push_text(text, mark_style(mark))?;
     push_text(text, b"];")
 }
@@ -280,14 +288,14 @@ pub(crate) fn push_node(
     name: NodeName,
     row: &Row,
 ) -> Result<(), AllocError>
-    ensures { OnOk result (text.new.items ≡ text.old.items ++ node_text titles.now view.now mark name row.now.attributes row.now.body) }
+    ensures { OnOk result (text.new.items ≡ text.old.items ++ node_text titles.now view.now mark name row.now.attributes row.now) }
 {
     let Some(node) = &row.attributes else {
         return Ok(());
     };
     push_box(text, node.home)?;
     push_node_name(text, name)?;
-    push_look(text, titles, view, mark, name, node, &row.body)?;
+    push_look(text, titles, view, mark, name, node, row)?;
     push_text(text, box_end(node.home))
 }
 

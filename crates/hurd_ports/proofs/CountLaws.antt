@@ -1,8 +1,7 @@
 -- What is counted of the names that rights have.
-use Rattle.std.proofs.Common.{◌≡◌, inl, inr, ℕ, zero, suc, ◌+◌, ◌*◌, ◌<◌, ◌≤◌, ◌||◌, List, [], ◌∷◌, ◌++◌, Bool, true, false, cond, map, length, drop, refl, sym, ap, ◌∙◌, arith, add-one, length-append}
+use Rattle.std.proofs.Common.{◌≡◌, inl, inr, ℕ, zero, suc, ◌+◌, ◌*◌, ◌<◌, ◌≤◌, ◌||◌, List, [], ◌∷◌, ◌++◌, Bool, true, false, map, length, drop, refl, sym, ap, ◌∙◌, arith, add-one, length-append}
 use Rattle.std.proofs.lemmas.List.{drop_all, length-map, length-set}
 use Rattle.std.specs.Prelude.{Option, Some, None, slice_get, slice_set, slice_index_or, nat_lt}
-use Rattle.indexmap.specs.IndexMap.{IndexMap, get}
 use Rattle.hurd_creds.specs.Names.{same_name}
 use Rattle.hurd_creds.specs.Limits.{most_tasks}
 use Rattle.hurd_creds.specs.declared.name.Name.{Name}
@@ -15,10 +14,9 @@ use Rattle.hurd_ports.specs.declared.table.Port.{Port}
 use Rattle.hurd_ports.specs.declared.table.Right.{Right}
 use Rattle.hurd_ports.specs.declared.table.Right.TheVariants.{Io, Control, Start}
 use Rattle.hurd_ports.specs.declared.table.TaskSeat.{TaskSeat}
-use Rattle.hurd_creds.specs.Weights.{count_list, if_so, one_if, weigh_list}
+use Rattle.hurd_creds.specs.Weights.{count_list, one_if, weigh_list}
 use Rattle.hurd_ports.specs.Tables.{Task, count_rights, is_controlled, is_held, is_named, names_node, names_open, names_server, nodes_of, rights_of, start_of, uses_node, ways_of, weigh_rights}
 use Rattle.hurd_ports.specs.Steps.{new_task}
-use Rattle.hurd_creds.specs.Counts.{counted, or_none}
 use Rattle.hurd_ports.specs.Counts.{AreCounted, Besides, Opens, Servers, Sort, Uses, count_of, excess, most_counted, naming}
 use Rattle.hurd_ports.specs.Seats.{seat_task, tasks_of}
 use Rattle.hurd_ports.proofs.SeatLaws.{seat-there, seat-changed}

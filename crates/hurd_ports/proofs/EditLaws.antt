@@ -16,11 +16,11 @@ use Rattle.hurd_ports.specs.declared.table.Right.{Right}
 use Rattle.hurd_ports.specs.declared.table.PendingStart.{PendingStart}
 use Rattle.hurd_ports.specs.declared.table.TaskSeat.{TaskSeat}
 use Rattle.hurd_creds.specs.Weights.{one_if, count_list, weigh_list}
-use Rattle.hurd_ports.specs.Tables.{Task, PortState, has_room, names_open, or_refuse, right_at, right_in, right_of, rights_of, start_of}
+use Rattle.hurd_ports.specs.Tables.{OpenMap, Task, PortState, has_room, names_open, or_refuse, right_at, right_in, right_of, rights_of, start_of}
 use Rattle.hurd_ports.specs.Steps.{edit_task, name_step, named, pend_at, pend_step, received, receive_at, receive_step, sent_to, send_step, share_at, share_step, take_ids_at, take_ids_step, taken_by, with_ids, with_pending, with_port, with_sent}
 use Rattle.hurd_ports.specs.Sound.{IsSound, NumbersRise}
 use Rattle.hurd_ports.specs.Counts.{Sort, count_of, excess, naming}
-use Rattle.hurd_ports.specs.Seats.{IsKept, IsReady, OpenEntry, seat_task, tasks_of, state_of}
+use Rattle.hurd_ports.specs.Seats.{IsKept, IsReady, seat_task, tasks_of, state_of}
 use Rattle.hurd_ports.proofs.TaskLaws.{one_or_other, set-apart, set-here, set-same, edit-found}
 use Rattle.hurd_ports.proofs.WeightLaws.{pending_weighs, port_weighs, weigh_received, weigh_sent}
 use Rattle.hurd_ports.proofs.HeldLaws.{held-grows}
@@ -84,7 +84,7 @@ sound-put h t x y gone come sound at now = record {
 }
 
 -- a task is there where the test says so
-pub task-there : (os : List OpenEntry) (ss : List TaskSeat) (t : ℕ) (u : Unit {0}) → ◌≡◌ {A = Result (Unit {0}) Errno} (Ok u) (if nat_lt t (length (state_of os ss).tasks) then Ok tt else Err ESRCH) → t < length ss
+pub task-there : (os : OpenMap) (ss : List TaskSeat) (t : ℕ) (u : Unit {0}) → ◌≡◌ {A = Result (Unit {0}) Errno} (Ok u) (if nat_lt t (length (state_of os ss).tasks) then Ok tt else Err ESRCH) → t < length ss
 task-there os ss t u is =
     let below : nat_lt t (length (tasks_of ss)) ≡ true = go (nat_lt t (length (tasks_of ss))) is in
     let same : length (tasks_of ss) ≡ length ss = length-map ss seat_task in
@@ -95,10 +95,10 @@ task-there os ss t u is =
     go false h = absurd (cc)
 
 -- in the code, the seat of a task
-pub record SeatAt (os : List OpenEntry) (ss : List TaskSeat) (t : ℕ) (s : TaskSeat) : Type 0 where
+pub record SeatAt (os : OpenMap) (ss : List TaskSeat) (t : ℕ) (s : TaskSeat) : Type 0 where
   pub is : slice_get ss t ≡ Some s
 
-module _ {os : List OpenEntry} {ss : List TaskSeat} {t : ℕ} {s : TaskSeat} (seat : SeatAt os ss t s) where
+module _ {os : OpenMap} {ss : List TaskSeat} {t : ℕ} {s : TaskSeat} (seat : SeatAt os ss t s) where
   pub there : slice_get (tasks_of ss) t ≡ Some (seat_task s)
   there = seat-there ss t s seat.is
 
@@ -109,7 +109,7 @@ module _ {os : List OpenEntry} {ss : List TaskSeat} {t : ℕ} {s : TaskSeat} (se
   put-same = same_halves _ _ _ _ refl (set-same (tasks_of ss) t (seat_task s) there)
 
   -- where opens and the table of the seat have other room, nothing else changes
-  pub seat-kept : (news : List OpenEntry) (new : TaskSeat) → seat_task new ≡ seat_task s → news ≡ os → state_of news (slice_set ss t new) ≡ state_of os ss
+  pub seat-kept : (news : OpenMap) (new : TaskSeat) → seat_task new ≡ seat_task s → news ≡ os → state_of news (slice_set ss t new) ≡ state_of os ss
   seat-kept news new same kept = rw kept (seat-put new (seat_task s) same ∙ put-same)
 
   -- what is reserved stays where the seat keeps its ports

@@ -11,3 +11,4 @@ pub mod WeightLaws
 pub mod CountLaws
 pub mod FillLaws
 pub mod SettleLaws
+pub mod EndLaws

@@ -3,9 +3,9 @@ use Rattle.std.proofs.Common.{◌≡◌, ℕ, ◌<◌, List, [], ◌∷◌, ◌+
 use Rattle.std.proofs.lemmas.List.{map_push, map-set}
 use Rattle.std.specs.Prelude.{Option, Some, None, IsSomeAnd, slice_get, slice_set, slice_index_or}
 use Rattle.std.specs.Option.{option_map}
+use Rattle.std.specs.FinMap as fin
 use Rattle.std.proofs.lemmas.Option.{get_or_from_slice_get, slice_get-map}
 use Rattle.hurd_creds.specs.Access.{IdSets}
-use Rattle.hurd_creds.proofs.KeyedLaws.{keyed-nothing}
 use Rattle.hurd_creds.specs.NameMaps.{edit}
 use Rattle.hurd_creds.specs.declared.name.Name.{Name}
 use Rattle.hurd_creds.specs.declared.name.TaskId.{TaskId}
@@ -14,7 +14,7 @@ use Rattle.hurd_ports.specs.declared.table.TaskSeat.{TaskSeat}
 use Rattle.hurd_ports.specs.declared.table.Opened.{Opened}
 use Rattle.hurd_ports.specs.Tables.{Task, PortState, OpenMap}
 use Rattle.hurd_ports.specs.Steps.{new_task, starting_at}
-use Rattle.hurd_ports.specs.Seats.{OpenEntry, seat_task, tasks_of, open_key, open_value, opens_of, state_of, AreInOrder, HasSpare, IsReady}
+use Rattle.hurd_ports.specs.Seats.{seat_task, tasks_of, state_of, AreInOrder, HasSpare, IsReady}
 use Rattle.hurd_ports.specs.Counts.{HasRoom}
 use Rattle.hurd_ports.specs.Sound.{IsSound}
 use Rattle.hurd_ports.proofs.TaskLaws.{map-origin, set-here}
@@ -27,10 +27,10 @@ pub same_halves : (m n : OpenMap) (ts us : List Task) → m ≡ n → ts ≡ us 
 same_halves m n ts us opens tasks = rw (opens, tasks) refl
 
 -- a seat for each task, and no opens
-pub started : (os : List OpenEntry) (ss : List TaskSeat) (ids done rest : List IdSets) (next : ℕ) → os ≡ [] → tasks_of ss ≡ map (new_task next) done → done ++ rest ≡ ids → rest ≡ [] → state_of os ss ≡ starting_at ids next
+pub started : (os : OpenMap) (ss : List TaskSeat) (ids done rest : List IdSets) (next : ℕ) → os ≡ fin.empty → tasks_of ss ≡ map (new_task next) done → done ++ rest ≡ ids → rest ≡ [] → state_of os ss ≡ starting_at ids next
 started os ss ids done rest next none seats all end =
     let whole : done ≡ ids = sym (append-nil done) ∙ ap (λ (r : List IdSets). done ++ r) (sym end) ∙ all in
-    same_halves _ _ _ _ (ap opens_of none ∙ keyed-nothing open_key open_value) (seats ∙ ap (map (new_task next)) whole)
+    same_halves _ _ _ _ none (seats ∙ ap (map (new_task next)) whole)
 
 -- one more seat without ports
 pub seat-pushed : (ss : List TaskSeat) (x : TaskSeat) (done : List IdSets) (ids : IdSets) (next : ℕ) → tasks_of ss ≡ map (new_task next) done → seat_task x ≡ new_task next ids → tasks_of (ss ++ x ∷ []) ≡ map (new_task next) (done ++ ids ∷ [])
@@ -38,7 +38,7 @@ seat-pushed ss x done ids next seats is =
     map_push seat_task ss x ∙ ap₂ (λ (ts : List Task) (t : Task). ts ++ t ∷ []) seats is ∙ sym (map_push (new_task next) done ids)
 
 -- an open changed
-pub open-changed : (os news : List OpenEntry) (ss : List TaskSeat) (n : Name) (f : Opened → Opened) → opens_of news ≡ edit n f (opens_of os) → state_of news ss ≡ edit_open n f (state_of os ss)
+pub open-changed : (os news : OpenMap) (ss : List TaskSeat) (n : Name) (f : Opened → Opened) → news ≡ edit n f os → state_of news ss ≡ edit_open n f (state_of os ss)
 open-changed os news ss n f is = same_halves _ _ _ _ is refl
 
 -- the task of a seat that was looked up
@@ -46,7 +46,7 @@ pub seat-there : (ss : List TaskSeat) (t : ℕ) (s : TaskSeat) → slice_get ss 
 seat-there ss t s at = slice_get-map seat_task ss t ∙ ap (option_map seat_task) at
 
 -- the numbers of its ports rise
-pub seat-ordered : (os : List OpenEntry) (ss : List TaskSeat) (t : ℕ) (s : TaskSeat) → IsSound (state_of os ss) → slice_get ss t ≡ Some s → AreInOrder s.ports.items
+pub seat-ordered : (os : OpenMap) (ss : List TaskSeat) (t : ℕ) (s : TaskSeat) → IsSound (state_of os ss) → slice_get ss t ≡ Some s → AreInOrder s.ports.items
 seat-ordered os ss t s sound at = (s.next, sound.numbered t (seat_task s) (seat-there ss t s at))
 
 -- the task of a seat that was read

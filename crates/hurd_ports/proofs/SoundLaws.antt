@@ -1,5 +1,5 @@
 -- Each change keeps the tables sound.
-use Rattle.std.proofs.Common.{◌≡◌, inl, inr, ℕ, ◌+◌, ◌≤◌, ◌==◌, List, [], ◌∷◌, ◌++◌, Bool, true, false, cond, if◌then◌else◌, refl, ap, sym, subst, ◌∙◌, arith}
+use Rattle.std.proofs.Common.{◌≡◌, inl, inr, ℕ, ◌+◌, ◌≤◌, ◌==◌, List, [], ◌∷◌, ◌++◌, Bool, true, false, if◌then◌else◌, refl, ap, sym, subst, ◌∙◌, arith}
 use Rattle.std.specs.Prelude.{Option, Some, None, Err, slice_get, slice_set}
 use Rattle.std.specs.Option.{option_map}
 use Rattle.std.specs.FinMap as fin
@@ -7,15 +7,15 @@ use Rattle.hurd_creds.specs.declared.name.Name.{Name}
 use Rattle.hurd_creds.specs.declared.open_flags.OpenFlags.{OpenFlags}
 use Rattle.hurd_creds.specs.Access.{IdSets}
 use Rattle.hurd_creds.specs.Names.{name_cmp}
-use Rattle.hurd_creds.proofs.NameLaws.{name_exact, same_or_apart, get_apart, edit_here, edit_apart}
+use Rattle.hurd_creds.proofs.NameLaws.{same_or_apart, get_apart, edit_here, edit_apart}
 use Rattle.hurd_creds.specs.NameMaps.{edit}
 use Rattle.hurd_ports.specs.declared.parents.Parent.{Parent}
 use Rattle.hurd_ports.specs.declared.table.Opened.{Opened}
 use Rattle.hurd_ports.specs.declared.table.Port.{Port}
 use Rattle.hurd_ports.specs.declared.table.Right.{Right}
 use Rattle.hurd_creds.specs.Weights.{one_if}
-use Rattle.hurd_ports.specs.Tables.{Task, PortState, OpenMap, is_held, names_open, fresh, right_in, right_of}
-use Rattle.hurd_ports.specs.Steps.{new_task, starting_at, named, new_open, new_right, with_port, with_new_port, without_port, ports_without, settle_opens}
+use Rattle.hurd_ports.specs.Tables.{Task, PortState, OpenMap, names_open, fresh, right_in, right_of}
+use Rattle.hurd_ports.specs.Steps.{new_task, starting_at, named, new_open, new_right, with_port, with_new_port, ports_without}
 use Rattle.hurd_ports.specs.Sound.{IsSound, IsGiven, NumbersRise}
 use Rattle.hurd_creds.specs.declared.errno.Errno.TheVariants.{EBADF}
 use Rattle.hurd_ports.proofs.PlaceLaws.{same_test, apart_test}
@@ -51,7 +51,7 @@ pub rise-push : (low n : ℕ) (ps : List Port) (p : Port) → p.number ≡ n →
 rise-push low n [] p e h = (omega arith, omega arith)
 rise-push low n (x ∷ ps) p e h = (h.0, rise-push (x.number + 1) n ps p e h.1)
 
-rise-without : (low n q : ℕ) (ps : List Port) → NumbersRise low n ps → NumbersRise low n (ports_without q ps)
+pub rise-without : (low n q : ℕ) (ps : List Port) → NumbersRise low n ps → NumbersRise low n (ports_without q ps)
 rise-without low n q [] h = h
 rise-without low n q (x ∷ ps) h = go (q == x.number) (rise-without (x.number + 1) n q ps h.1)
   where
@@ -111,22 +111,18 @@ module _ (h : PortState) (t : ℕ) (x : Task) (sound : IsSound h) (at : slice_ge
       more : (q : Name) → namings q y ≡ namings q x + one_if (names_open q right)
       more q = port_weighs (λ z. one_if (names_open q z)) right (named 1 x)
 
-      added : IsSound (record { opens = fin.insert h.opens (fresh t x) (new_open modes); tasks = slice_set h.tasks t y })
+      added : IsSound (record { opens = fin.insert h.opens (fresh t x) (new_open n modes); tasks = slice_set h.tasks t y })
       added = record {
         settled = λ q w is. elim (same_or_apart q (fresh t x)) [
           | inl e ↦ held-here h.tasks t x y q at (omega (arith, more q, ap one_if (names_own q right (ap Some (sym e)))))
-          | inr apart ↦ held-grows h.tasks t x y q at (omega (arith, more q)) (sound.settled q w (sym (get_apart h.opens (fresh t x) (new_open modes) q apart) ∙ is))
+          | inr apart ↦ held-grows h.tasks t x y q at (omega (arith, more q)) (sound.settled q w (sym (get_apart h.opens (fresh t x) (new_open n modes) q apart) ∙ is))
         ];
         given = λ q w is. elim (same_or_apart q (fresh t x)) [
           | inl e ↦ rw (e, set-here h.tasks t x y at) (omega arith)
-          | inr apart ↦ given-set h.tasks t x y q at (omega arith) (sound.given q w (sym (get_apart h.opens (fresh t x) (new_open modes) q apart) ∙ is))
+          | inr apart ↦ given-set h.tasks t x y q at (omega arith) (sound.given q w (sym (get_apart h.opens (fresh t x) (new_open n modes) q apart) ∙ is))
         ];
         numbered = numbers-set h.tasks t x y at sound.numbered (rise-push 0 x.next x.ports port refl (sound.numbered t x at));
       }
-
--- what is open under a name once the opens that no right names are out
-pub get-held : (m : OpenMap) (ts : List Task) (q : Name) → fin.get (fin.retain_keys m (is_held ts)) q ≡ cond (is_held ts q) (fin.get m q) None
-get-held m ts q = fin.get-retain_keys m (is_held ts) q (λ x e. ap (is_held ts) (sym (name_exact q x e)))
 
 -- an edit makes no open
 edit_had : (m : OpenMap) (n : Name) (f : Opened → Opened) (q : Name) (w : Opened) → fin.get (edit n f m) q ≡ Some w → (v : Opened) × (fin.get m q ≡ Some v)
@@ -150,18 +146,3 @@ sound-open h n f sound = record {
   given = λ q w is. let v = edit_had h.opens n f q w is in sound.given q v.0 v.1;
   numbered = sound.numbered;
 }
-
--- without the opens that no right names all that is left is held
-pub sound-settled : (h : PortState) (t p : ℕ) (x : Task) → IsSound h → slice_get h.tasks t ≡ Some x → IsSound (settle_opens (record h { tasks = slice_set h.tasks t (without_port p x) }))
-sound-settled h t p x sound at = record {
-  settled = λ q w is. (kept q w is).0;
-  given = λ q w is. given-set h.tasks t x (without_port p x) q at (omega arith) (sound.given q w (kept q w is).1);
-  numbered = numbers-set h.tasks t x (without_port p x) at sound.numbered (rise-without 0 x.next p x.ports (sound.numbered t x at));
-}
-  where
-    both : (b : Bool) (o : Option Opened) (w : Opened) → cond b o None ≡ Some w → (b ≡ true) × (o ≡ Some w)
-    both true o w h = (refl, h)
-    both false o w h = absurd (cc)
-
-    kept : (q : Name) (w : Opened) → fin.get (fin.retain_keys h.opens (is_held (slice_set h.tasks t (without_port p x)))) q ≡ Some w → (is_held (slice_set h.tasks t (without_port p x)) q ≡ true) × (fin.get h.opens q ≡ Some w)
-    kept q w is = both _ _ w (sym (get-held h.opens (slice_set h.tasks t (without_port p x)) q) ∙ is)

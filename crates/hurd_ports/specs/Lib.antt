@@ -3,4 +3,5 @@ pub mod Tables
 pub mod Steps
 pub mod Sound
 pub mod Counts
+pub mod OpenTables
 pub mod Seats

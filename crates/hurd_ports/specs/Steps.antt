@@ -16,7 +16,7 @@ use Rattle.hurd_ports.specs.declared.table.Right.{Right}
 use Rattle.hurd_ports.specs.declared.table.Right.TheVariants.{Io}
 use Rattle.hurd_ports.specs.declared.table.Port.{Port}
 use Rattle.hurd_ports.specs.declared.table.PendingStart.{PendingStart}
-use Rattle.hurd_ports.specs.Tables.{Task, PortState, Tables, right_in, right_of, fresh, has_room, is_held}
+use Rattle.hurd_ports.specs.Tables.{Task, OpenMap, PortState, Tables, right_in, right_of, fresh, has_room, is_held, open_of}
 
 -- a task that has made nothing, with an empty table
 abbrev pub new_task : ℕ → IdSets → Task
@@ -81,9 +81,9 @@ edit_task q f ts = edit_at q f ts (slice_get ts q)
 
 -- what becomes of opens
 
--- an open from its beginning
-abbrev pub new_open : OpenFlags → Opened
-new_open modes = record { cursor = 0; modes = modes }
+-- an open of a node, from its beginning
+abbrev pub new_open : Name → OpenFlags → Opened
+new_open n modes = record { node = n; cursor = 0; modes = modes }
 
 abbrev pub at_cursor : ℕ → Opened → Opened
 at_cursor k o = record o { cursor = k }
@@ -92,9 +92,14 @@ at_cursor k o = record o { cursor = k }
 abbrev pub appending : Bool → Opened → Opened
 appending append o = record o { modes = with_append append o.modes }
 
--- without the opens that no right names
-abbrev pub settle_opens : PortState → PortState
-settle_opens h = record h { opens = fin.retain_keys h.opens (is_held h.tasks) }
+-- the opens but the one of this name, unless it is held
+abbrev pub settled_at : (Name → Bool) → Name → OpenMap → OpenMap
+settled_at held o m = if held o then m else fin.remove m o
+
+-- the same of an open that a right may have had
+abbrev pub settled_by : (Name → Bool) → Option Name → OpenMap → OpenMap
+settled_by held None m = m
+settled_by held (Some o) m = settled_at held o m
 
 -- what calls on tables answer, and leave
 
@@ -105,7 +110,7 @@ new_right t n ids parents x = Io (record { node = n; ids = ids; open_name = fres
 -- with a port of a task on a node, and a new open of its own
 abbrev pub with_new_port : ℕ → Name → IdSets → List Parent → OpenFlags → Task → PortState → PortState
 with_new_port t n ids parents modes x h = record {
-  opens = fin.insert h.opens (fresh t x) (new_open modes);
+  opens = fin.insert h.opens (fresh t x) (new_open n modes);
   tasks = edit_task t (with_port (new_right t n ids parents x)) (edit_task t (named 1) h.tasks);
 }
 
@@ -123,7 +128,7 @@ name_step t h = record h { tasks = edit_task t (named 1) h.tasks }
 
 abbrev pub dropped : PortState → ℕ → ℕ → Option Right → Result (Unit {0}) Errno × PortState
 dropped h t p None = (Err EBADF, h)
-dropped h t p (Some r) = (Ok tt, settle_opens (record h { tasks = edit_task t (without_port p) h.tasks }))
+dropped h t p (Some r) = let ts = edit_task t (without_port p) h.tasks in (Ok tt, record { opens = settled_by (is_held ts) (open_of r) h.opens; tasks = ts })
 
 abbrev pub deallocate_at : PortState → ℕ → ℕ → Option Task → Result (Unit {0}) Errno × PortState
 deallocate_at h t p None = (Err ESRCH, h)

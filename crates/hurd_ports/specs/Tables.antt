@@ -1,6 +1,6 @@
 -- Tasks, ports and opens as values.
 use Rattle.std.specs.Prelude.{◌≡◌, ℕ, ◌+◌, ◌==◌, ◌&&◌, Bool, true, false, if◌then◌else◌, List, [], ◌∷◌, ◌++◌, map, Option, Some, None, Result, Ok, Err, slice_get, nat_lt, nat_le, refl}
-use Rattle.std.specs.List.{list_any}
+use Rattle.std.specs.List.{list_any, sum_by}
 use Rattle.std.specs.FinMap as fin
 use Rattle.std.specs.Borrow.{Bor}
 use Rattle.std.specs.Coded.{Coded, code_by, coded×, coded_ℕ, coded_list, coded_option}
@@ -8,9 +8,11 @@ use Rattle.hurd_creds.specs.declared.name.Name.{Name}
 use Rattle.hurd_creds.specs.declared.errno.Errno.{Errno}
 use Rattle.hurd_creds.specs.declared.errno.Errno.TheVariants.{EBADF, ESRCH, EOVERFLOW}
 use Rattle.hurd_creds.specs.Access.{IdSets, coded_ids}
+use Rattle.hurd_creds.specs.Bits.{asks, READ, WRITE}
 use Rattle.hurd_creds.specs.Names.{name_of, coded_name, same_name}
 use Rattle.hurd_creds.specs.NameMaps.{NameMap}
 use Rattle.hurd_creds.specs.Weights.{one_if, weigh_list}
+use Rattle.hurd_ports.specs.declared.table.Ends.{Ends}
 use Rattle.hurd_ports.specs.declared.table.Opened.{Opened}
 use Rattle.hurd_ports.specs.declared.parents.Parent.{Parent}
 use Rattle.hurd_ports.specs.declared.table.IoRight.{IoRight}
@@ -207,6 +209,18 @@ weigh_rights W (t ∷ ts) = weigh_list W (rights_of t) + weigh_rights W ts
 -- how many rights of all tasks pass a test
 abbrev pub count_rights : (Right → Bool) → List Task → ℕ
 count_rights p ts = weigh_rights (λ r. one_if (p r)) ts
+
+-- whether an open is of a node, and for this
+abbrev pub is_end : Name → ℕ → Opened → Bool
+is_end n mode z = same_name n z.node && asks z.modes mode
+
+-- how many opens of a node are for this
+unfoldable pub ends : OpenMap → Name → ℕ → ℕ
+ends m n mode = sum_by (λ z. one_if (is_end n mode z)) (fin.values m)
+
+-- how many are to read it, and how many are to write it
+abbrev pub ends_of : OpenMap → Name → Ends
+ends_of m n = record { readers = ends m n READ; writers = ends m n WRITE }
 
 -- nothing is to be taken out: each open is held
 abbrev pub IsSettled : PortState → Type 0

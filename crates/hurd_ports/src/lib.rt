@@ -12,6 +12,7 @@
 //! A port is filled into room that was reserved for it, so that nothing is left to fail once its node is made.
 //!
 //! How often rights name each open, node and server, and use each node, is counted as they come and go, so that it takes no search to know.
+//! So is how many opens of each node are to read it, and to write it.
 //!
 //! It knows no nodes: a right may name one that is gone. What a right allows is for the calls to say.
 #![tactic(auto)]
@@ -25,4 +26,4 @@ mod table;
 
 pub use parents::{Parent, Parents};
 pub use ports::Ports;
-pub use table::{IoRight, Opened, PendingStart, Port, Right, TaskSeat};
+pub use table::{Ends, IoRight, Opened, PendingStart, Port, Right, TaskSeat};

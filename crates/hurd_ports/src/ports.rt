@@ -2,18 +2,20 @@
 ghost use Rattle.std.specs.Prelude.{◌≡◌, ◌≤◌, ◌<◌, Bool, Some, None, Ok, Err, if◌then◌else◌, length, map, nat_lt, option_copied, slice_get, IfErr, IfOk, IsSomeAnd};
 ghost use Rattle.std.specs.Option.{option_map};
 ghost use Rattle.std.specs.FinMap as fin;
+ghost use Rattle.hurd_creds.specs.Bits.{READ, WRITE};
 ghost use Rattle.hurd_creds.specs.Limits.{most_tasks};
 ghost use Rattle.hurd_creds.specs.Memory.{Meets, Steps};
 ghost use Rattle.hurd_creds.specs.declared.errno.Errno.{Errno};
-ghost use Rattle.hurd_ports.specs.Tables.{IsSettled, count_rights, fresh, ids_at, io_right_of, is_controlled, is_named, lent, names_open, naming_of, pending_of, right_of, room_of, uses_node};
+ghost use Rattle.hurd_ports.specs.Tables.{IsSettled, count_rights, ends, fresh, ids_at, io_right_of, is_controlled, is_named, lent, names_open, naming_of, pending_of, right_of, room_of, uses_node};
 ghost use Rattle.hurd_ports.specs.declared.table.Right.{Right};
 ghost use Rattle.hurd_ports.specs.Steps as step;
 ghost use Rattle.hurd_ports.specs.Counts as counts;
 ghost use Rattle.hurd_ports.specs.Counts.{is_counted, most_counted};
-ghost use Rattle.hurd_ports.specs.Seats.{opens_of, seat_task, settled_by};
+ghost use Rattle.hurd_ports.specs.Seats.{seat_task};
+ghost use Rattle.hurd_ports.specs.Steps.{settled_by};
 
 use crate::book::Book;
-use crate::opens::{self, Opens};
+use crate::opens::Opens;
 use crate::parents::Parents;
 use crate::table::{IoRight, Opened, PendingStart, Right, TaskSeat};
 use hurd_creds::{Errno, Ids, MOST_TASKS, Name, NodeName, OpenFlags, OpenName, ServerName, TaskId};
@@ -40,20 +42,18 @@ impl Model for Ports {
 
     ghost use Rattle.hurd_ports.specs.Seats.{tables_of, IsKept};
 
-    ghost view = { λ p. tables_of p.opens.entries p.tasks.items p.ready };
+    ghost view = { λ p. tables_of p.opens.all p.tasks.items p.ready };
 
-    ghost use Rattle.indexmap.specs.IndexMap.{spare};
-
-    ghost invariant = { λ p. IsKept p.opens.entries (spare p.opens) p.book p.tasks.items p.ready };
+    ghost invariant = { λ p. IsKept p.opens.all p.opens.room p.book p.tasks.items p.ready };
 }
 
 /// Takes out the open that a right had, if no right is counted that names it.
 fn settle(opens: &mut Opens, book: &Book, name: Option<OpenName>)
-    ensures { opens_of opens.new.entries ≡ settled_by (is_counted counts.Opens book.now) name (opens_of opens.old.entries) }
+    ensures { opens.new.all ≡ settled_by (is_counted counts.Opens book.now) name opens.old.all }
 {
     if let Some(name) = name {
         if !book.names_open(name) {
-            opens::remove(opens, name);
+            opens.remove(name);
         }
     }
 }
@@ -174,7 +174,21 @@ impl Ports {
     pub fn opened(&self, name: OpenName) -> Option<Opened>
         ensures { result ≡ fin.get self.now.state.opens name }
     {
-        opens::opened(&self.opens, name)
+        self.opens.opened(name)
+    }
+
+    /// How many opens of the node are to read it. No search.
+    pub fn readers(&self, node: NodeName) -> u128
+        ensures { result ≡ ends self.now.state.opens node READ }
+    {
+        self.opens.reader_count(node)
+    }
+
+    /// How many opens of the node are to write it. No search.
+    pub fn writers(&self, node: NodeName) -> u128
+        ensures { result ≡ ends self.now.state.opens node WRITE }
+    {
+        self.opens.writer_count(node)
     }
 
     /// How many rights name the open, in tables and in inboxes.
@@ -284,7 +298,7 @@ impl Ports {
         ensures settled { IsSettled self.new.state }
     {
         self.ready = None;
-        let Ok(()) = self.opens.reserve(1) else {
+        let Ok(()) = self.opens.reserve() else {
             return Err(Errno::ENOMEM);
         };
         let Ok(()) = self.book.reserve() else {
@@ -323,7 +337,7 @@ impl Ports {
         });
         self.book.add(&right);
         let number = seat.add(right);
-        opens::add(&mut self.opens, name, modes);
+        self.opens.add(name, node, modes);
         self.ready = None;
         number
     }
@@ -498,7 +512,7 @@ impl Ports {
         ensures moved { self.new.state ≡ step.move_cursor_step name cursor self.old.state }
         ensures settled { IsSettled self.new.state }
     {
-        opens::move_cursor(&mut self.opens, name, cursor);
+        self.opens.move_cursor(name, cursor);
     }
 
     /// Lets an open append, or not; where it isn't there, nothing changes. Takes no memory.
@@ -506,6 +520,6 @@ impl Ports {
         ensures set { self.new.state ≡ step.set_append_step name append self.old.state }
         ensures settled { IsSettled self.new.state }
     {
-        opens::set_append(&mut self.opens, name, append);
+        self.opens.set_append(name, append);
     }
 }

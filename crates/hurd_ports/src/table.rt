@@ -75,11 +75,19 @@ impl Right {
     }
 }
 
-/// An open: where the next read or write without an offset begins, and what it was opened for.
+/// An open: its node, where the next read or write without an offset begins, and what it was opened for.
 #[derive(Clone, Copy, Debug, PartialEq, Eq)]
 pub struct Opened {
+    pub node: NodeName,
     pub cursor: u64,
     pub modes: OpenFlags,
+}
+
+/// How many opens read a node, and how many write it.
+#[derive(Clone, Copy, Debug, PartialEq, Eq)]
+pub struct Ends {
+    pub readers: u128,
+    pub writers: u128,
 }
 
 /// A right under its number.

@@ -1,11 +1,11 @@
 -- The laws of the calls on rights and ids: a port that goes; a right that goes to any inbox, and one that comes from there; and
 -- other ids, which the task holds already.
-use Rattle.std.proofs.Common.{List, ℕ, refl, inl, ◌≡◌, ◌∙◌, Bool, true, Some, Ok, length, nat_lt, ap, inr, subst}
-use Rattle.hurd_machine.proofs.Common.{Change, EOVERFLOW, EPERM, ESRCH, EWOULDBLOCK, IdSets, Nothing, OnDrop, OnRight, Plan, Right, Task, World, first_sent, ports_of, task_at, task_of}
+use Rattle.std.proofs.Common.{ℕ, refl, inl, ◌≡◌, ◌∙◌, Bool, true, Some, Ok, length, nat_lt, ap, inr, subst}
+use Rattle.hurd_machine.proofs.Common.{Control, EOVERFLOW, EPERM, ESRCH, EWOULDBLOCK, Holds, IdSets, Io, Name, Nothing, OnDrop, OpenOf, Right, Sees, Start, Task, World, first_sent, open_of, ports_of, task_at, task_of}
 use Rattle.hurd_ports.specs.Tables.{right_of}
 use Rattle.hurd_machine.specs.declared.call.Reply.TheVariants.{Done, Port}
 use Rattle.hurd_machine.proofs.Asks.{right_same, answered_same, has_right, right_plain, answered_plain, done_plain, IsPlain, holds_right, on_ok, given_ok, first_ok, on_same, given_same, first_same, on_plain, given_plain, first_plain, ok_plain, has_task, task_same, task_plain}
-use Rattle.hurd_machine.proofs.Opens.{own_task, drops_whole, dropping_same}
+use Rattle.hurd_machine.proofs.Opens.{own_task, drops_whole}
 use Rattle.hurd_machine.proofs.Piece.{stands}
 use Rattle.hurd_machine.proofs.CallLaws.{CallLaws, answered_piece, answered_whole}
 use Rattle.hurd_rights.specs.Rights.{plan_deallocate, touches_deallocate, plan_send, touches_send, plan_receive, touches_receive, makeauth_asks, plan_makeauth, touches_makeauth}
@@ -18,11 +18,17 @@ use Rattle.hurd_machine.proofs.Taking.{takes_whole}
 
 -- port_deallocate: it asks for the right alone, and gives up what was the caller's
 
+-- the open of a right of S is seen
+open_seen : {S : ℕ → Bool} {w : World} (r : Right) → Holds S w r → (o : Name) → open_of r ≡ Some o → Sees S w (OpenOf o)
+open_seen (Io q) held o names = (q, held, cc (names))
+open_seen (Control s) held o names = absurd (cc (names))
+open_seen (Start n) held o names = absurd (cc (names))
+
 pub deallocate_laws : (t p : ℕ) → CallLaws t (λ w. plan_deallocate w t p) (λ w. touches_deallocate w t p)
 deallocate_laws t p = record {
   piece = λ w s. answered_piece s (right_of (ports_of w) t p) _ _ (λ r is.
-      let h = has_right w t p r is in drops_whole (stands s) t p h.seat r h.is_task h.under (own_task w t (OnDrop w r)) (λ q on. inl on));
-  same = λ S v w c d a ours. answered_same _ _ _ _ (right_same a t ours p) (λ r is. ap (λ (cs : List Change). let P : Plan = record { reply = Done; changes = cs } in P) (dropping_same a t p r (holds_right t ours p r is)));
+      let h = has_right w t p r is in drops_whole (stands s) t p h.seat r h.is_task h.under (own_task w t (OnDrop w r)) (λ q on. inl on) (λ S ours o names. inl (open_seen r (holds_right t ours p r is) o names)));
+  same = λ S v w c d a ours. answered_same _ _ _ _ (right_same a t ours p) (λ r is. refl);
   plain = λ w. answered_plain _ _ (right_plain w t p) (λ r is. done_plain Done refl);
 }
 

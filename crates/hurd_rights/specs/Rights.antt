@@ -15,7 +15,7 @@ use Rattle.hurd_core.specs.Core.{send_asks, receive_asks}
 
 -- port_deallocate: the right goes, and its open where no other right names that
 abbrev pub plan_deallocate : World → ℕ → ℕ → Plan
-plan_deallocate w t p = answered (right_of (ports_of w) t p) (λ r. record { reply = Done; changes = dropping w t p r })
+plan_deallocate w t p = answered (right_of (ports_of w) t p) (λ r. record { reply = Done; changes = dropping t p r })
 
 abbrev pub touches_deallocate : World → ℕ → ℕ → Part → Type 0
 touches_deallocate w t p = asked_parts (right_of (ports_of w) t p) (λ r. OnDrop w r)

@@ -289,6 +289,12 @@ module _ (S : ℕ → Bool) (w : World) (v : Sight) (l : Looks S w v) where
     λ s. and_from (is_found n v.found) (reads_with (nodes_of w) v n (header_of w.nodes n)) ((l.found.exact n).1 s.0) (ap (reads_with (nodes_of w) v n) s.2 ∙ read_from n s.1 s.3),
   )
 
+  ends_seen : (n : Name) → (sees_with (nodes_of w) v (seen.Ends n) ≡ true) ↔ Sees S w (part_of (seen.Ends n))
+  ends_seen n = (
+    λ e. let p = and_parts (counts_at w n) (sees_with (nodes_of w) v (seen.Body n)) e in (p.0, (body_seen n).0 p.1),
+    λ s. and_from (counts_at w n) (sees_with (nodes_of w) v (seen.Body n)) s.0 ((body_seen n).1 s.1),
+  )
+
   parent_to : (p : Option Name) → writes_at (nodes_of w) v.reach p ≡ true → (q : Name) × (a : Header) × (p ≡ Some q) × (header_at w q ≡ Some a) × Could S w a Write
   parent_to p e =
       let q = tested (writes_at (nodes_of w) v.reach) refl p e in
@@ -399,6 +405,7 @@ pub parts_are_seen : PartsAreSeen
 parts_are_seen S w v (seen.Attributes n) l = l.found.exact n
 parts_are_seen S w v (seen.Empty n) l = empty_seen S w v l n
 parts_are_seen S w v (seen.Body n) l = body_seen S w v l n
+parts_are_seen S w v (seen.Ends n) l = ends_seen S w v l n
 parts_are_seen S w v (seen.Open o) l = l.opens o
 parts_are_seen S w v (seen.Options s) l = knows_seen S w v l s
 parts_are_seen S w v (seen.Text s) l = text_seen S w v l s

@@ -46,7 +46,7 @@ abbrev pub puts_with : Sight → Name → Header → Bool
 puts_with v n x = could_with v.reach (bare x) Write || is_in n v.rights.writable
 
 -- whether it is told what is in a node of this header: it could be read, or searched if it is a directory, or is open to read;
--- or its server counts who reads and who writes, and it could be written or is open to write
+-- or its server is told who reads and who writes, and it could be written or is open to write
 abbrev pub reads_with : NodeState → Sight → Name → Option Header → Bool
 reads_with h v n None = false
 reads_with h v n (Some x) =
@@ -87,6 +87,7 @@ abbrev pub sees_with : NodeState → Sight → SeenPart → Bool
 sees_with h v (seen.Attributes n) = is_found n v.found
 sees_with h v (seen.Empty n) = is_found n v.found && tells_empty h v n (header_of h.nodes n)
 sees_with h v (seen.Body n) = is_found n v.found && reads_with h v n (header_of h.nodes n)
+sees_with h v (seen.Ends n) = counts_by (server_of h n) && (is_found n v.found && reads_with h v n (header_of h.nodes n))
 sees_with h v (seen.Open o) = is_in o v.rights.opens
 sees_with h v (seen.Options s) = is_in s v.known || is_in s v.rights.controlled
 sees_with h v (seen.Text s) = shows_text h v s (option_map (λ (i : ServerInfo). i.root) (fin.get h.servers s))

@@ -101,6 +101,7 @@ impl Sight {
             SeenPart::Attributes(node) => self.found.has(node),
             SeenPart::Empty(node) => self.sees_empty(nodes, node),
             SeenPart::Body(node) => self.sees_body(nodes, node),
+            SeenPart::Ends(node) => nodes.counts(node) && self.sees_body(nodes, node),
             SeenPart::Open(open_name) => self.rights.opens.has(open_name),
             SeenPart::Options(server) => self.knows(server),
             SeenPart::Text(server) => self.sees_text(nodes, server),
@@ -142,7 +143,7 @@ impl Sight {
         self.reads(nodes, node, attrs) || self.writes(nodes, attrs.parent)
     }
 
-    /// Whether a node of these attributes could be read, or searched if it is a directory, or is open to read; or its server counts who reads and who writes, and it
+    /// Whether a node of these attributes could be read, or searched if it is a directory, or is open to read; or its server is told who reads and who writes, and it
     /// could be written or is open to write.
     fn reads<S: Server>(&self, nodes: &Nodes<S>, node: NodeName, attrs: &Attrs) -> bool
         ensures { (x : Header) → header_in attrs.now ≡ told_header x → result ≡ reads_with (shown S.meaning nodes.now) self.now node (Some x) }

@@ -10,6 +10,8 @@ pub enum SeenPart {
     Empty(NodeName),
     /// A node's bytes or entries.
     Body(NodeName),
+    /// How many opens read a node, and how many write it, where its server is told.
+    Ends(NodeName),
     /// An open, and how many rights hold it.
     Open(OpenName),
     /// A server, but for its text, unless that is a link's.

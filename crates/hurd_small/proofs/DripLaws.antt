@@ -10,7 +10,7 @@ use Rattle.hurd_trans_iface.specs.Behaviour.{served}
 use Rattle.hurd_trans_iface.specs.DripKind.{dripped, drop_byte, drops_of, most_drops}
 use Rattle.hurd_trans_iface.specs.Meaning.{Drip}
 use Rattle.hurd_small.specs.declared.presence.LoneNode.{LoneNode}
-use Rattle.hurd_small.specs.Lone.{bytes_kept, node_of}
+use Rattle.hurd_small.specs.Lone.{node_of}
 
 abbrev drops : ℕ → List ℕ
 drops given = replicate given drop_byte
@@ -35,7 +35,7 @@ module _ (digits : List ℕ) (given count : ℕ) (n : LoneNode) (amount : ℕ) (
   left_at k = drops_of digits - length (drops k)
 
   abbrev node_at : ℕ → Node
-  node_at k = node_of Drip digits (bytes_kept (drops k)) n
+  node_at k = node_of Drip digits (drops k) n
 
   pub steps-dry : given ≡ count → Steps (node_at given) (served (dripped (left_at given) amount) (node_at given)) (Err EIO) (node_at given)
   steps-dry all =

@@ -8,22 +8,22 @@ use Rattle.hurd_creds.specs.NameMaps.{NameMap, map_values}
 use Rattle.hurd_creds.specs.Names.{name_cmp, same_name}
 use Rattle.hurd_creds.specs.declared.name.Name.{Name}
 use Rattle.hurd_creds.specs.declared.errno.Errno.{Errno}
-use Rattle.hurd_creds.specs.declared.errno.Errno.TheVariants.{ENOTDIR, EROFS}
+use Rattle.hurd_creds.specs.declared.errno.Errno.TheVariants.{ENOTDIR, EOPNOTSUPP, EROFS}
 use Rattle.hurd_creds.proofs.NameLaws.{equal_if_same, apart_if_not_same, same_or_apart, same_map_by, get_here, get_apart, remove_here, remove_apart, insert-insert}
 use Rattle.hurd_creds.proofs.MapLaws.{map_values-empty, map_values-insert}
 use Rattle.hurd_creds.proofs.StepLaws.{steps-inside, steps-refused}
 use Rattle.hurd_trans_iface.specs.declared.header_edit.HeaderEdit.{HeaderEdit}
 use Rattle.hurd_trans_iface.specs.Nodes.{AllListed, Body, Node, NodeMap, body_of, is_dir, is_entered_at, passive_of, with_header, with_size}
-use Rattle.hurd_trans_iface.specs.Answers.{entry_of, unlink_of, header_edited}
-use Rattle.hurd_trans_iface.specs.Meaning.{Meaning, ServerKind, behaviour_of, root_of, keeps_tree, empty_body, new_root, begin_root_after, step_of, options_taken, set_options_step, size_of, unlink_step, forget_after, edits_header, edit_header_step}
+use Rattle.hurd_trans_iface.specs.Answers.{entry_of, unlink_of}
+use Rattle.hurd_trans_iface.specs.Meaning.{Meaning, ServerKind, behaviour_of, root_of, keeps_tree, empty_body, new_root, begin_root_after, step_of, options_taken, set_options_step, size_of, unlink_step, forget_after, edit_header_step}
 use Rattle.hurd_trans_iface.specs.Behaviour.{Effect, Question, told_of, served}
 use Rattle.hurd_trans_iface.specs.Good.{KeepsRoot}
 use Rattle.hurd_trans_iface.proofs.Goods.{good}
-use Rattle.hurd_trans_iface.proofs.NodeSteps.{header-here, step-node, told-here}
+use Rattle.hurd_trans_iface.proofs.NodeSteps.{step-node, told-here}
 use Rattle.hurd_small.specs.declared.presence.LoneNode.{LoneNode}
 use Rattle.hurd_small.specs.declared.presence.Presence.{Presence}
 use Rattle.hurd_small.specs.declared.presence.Presence.TheVariants.{Nameless, There, Forgotten}
-use Rattle.hurd_small.specs.Lone.{Kept, nothing_kept, filled, body_with, node_of, nodes_of, root_name, lone_meaning, barred_by, text_taken}
+use Rattle.hurd_small.specs.Lone.{filled, body_with, node_of, nodes_of, root_name, lone_meaning, barred_by, text_taken}
 
 -- maps of one value, and of none
 
@@ -79,7 +79,7 @@ no_entry : (name : List ℕ) (b : Bool) (held : List ℕ) → None ≡ entry_of 
 no_entry name true held = refl
 no_entry name false held = refl
 
-module _ (kind : ServerKind) (text : List ℕ) (held : Kept) where
+module _ (kind : ServerKind) (text : List ℕ) (held : List ℕ) where
   abbrev at : Presence → Name → Option Node
   at p n = fin.get (nodes_of kind text held p) n
 
@@ -125,7 +125,7 @@ module _ (kind : ServerKind) (text : List ℕ) (held : Kept) where
   pub step-none : (p : Presence) (n : Name) (name : List ℕ) → None ≡ entry_of name (body_of (nodes_of kind text held p) n)
   step-none p n name = elim (found p n) [
     | inl none ↦ rw none refl
-    | inr there ↦ rw there.1 (no_entry name (is_dir (root_of kind text).kind) held.bytes)
+    | inr there ↦ rw there.1 (no_entry name (is_dir (root_of kind text).kind) held)
   ]
 
   -- where no tree is kept
@@ -160,7 +160,7 @@ module _ (kind : ServerKind) (text : List ℕ) (held : Kept) where
 
 -- options that are taken
 
-module _ (kind : ServerKind) (old : List ℕ) (held : Kept) (p : Presence) where
+module _ (kind : ServerKind) (old : List ℕ) (held : List ℕ) (p : Presence) where
   abbrev meant : List ℕ → Meaning
   meant text = lone_meaning kind text held p
 
@@ -169,7 +169,7 @@ module _ (kind : ServerKind) (old : List ℕ) (held : Kept) (p : Presence) where
     resized x = with_header (with_size (size_of kind new)) x
 
     node-retexted : (n : LoneNode) → resized (node_of kind old held n) ≡ node_of kind new held n
-    node-retexted n = rw (kept.rooted old, kept.sized (body_with kind new held.bytes)) refl
+    node-retexted n = rw (kept.rooted old, kept.sized (body_with kind new held)) refl
 
     nodes-retexted : (q : Presence) → map_values resized (nodes_of kind old held q) ≡ nodes_of kind new held q
     nodes-retexted Nameless = map_values-empty resized
@@ -200,12 +200,12 @@ begun_empty true = refl
 begun_empty false = refl
 
 module _ (kind : ServerKind) (n : LoneNode) where
-  node-begun : (text : List ℕ) → node_of kind text nothing_kept n ≡ new_root (behaviour_of kind) text n.owner n.group n.mode
+  node-begun : (text : List ℕ) → node_of kind text [] n ≡ new_root (behaviour_of kind) text n.owner n.group n.mode
   node-begun text =
       let x = new_root (behaviour_of kind) text n.owner n.group n.mode in
       ap (λ (c : Body). let y : Node = record { header = with_size ((behaviour_of kind).size text c) x.header; body = c } in y) (begun_empty (is_dir (root_of kind text).kind))
 
-  pub root-begun : (p : Presence) (text : List ℕ) (held : Kept) (text' : List ℕ) (held' : Kept) → root_name p ≡ None → text' ≡ text → held' ≡ nothing_kept
+  pub root-begun : (p : Presence) (text : List ℕ) (held : List ℕ) (text' : List ℕ) (held' : List ℕ) → root_name p ≡ None → text' ≡ text → held' ≡ []
       → lone_meaning kind text' held' (There n) ≡ begin_root_after (lone_meaning kind text held p) n.name n.owner n.group n.mode
   root-begun Nameless text held text' held' none same empty =
       rw (same, empty)
@@ -220,11 +220,11 @@ steps-told (Err f) x y got is = rw (ap (λ s. s.0) is, ap (λ s. s.1) is) (steps
 
 -- what is done to what is kept of the node
 
-module _ (kind : ServerKind) (text : List ℕ) (held : Kept) (p : Presence) (r : LoneNode) (n : Name) (is : p ≡ There r) (name : r.name ≡ n) where
+module _ (kind : ServerKind) (text : List ℕ) (held : List ℕ) (p : Presence) (r : LoneNode) (n : Name) (is : p ≡ There r) (name : r.name ≡ n) where
   pub at-there : fin.get (nodes_of kind text held p) n ≡ Some (node_of kind text held r)
   at-there = rw (is, ← name) (get-one r.name (node_of kind text held r))
 
-  nodes-kept : (new : Kept) → nodes_of kind text new p ≡ fin.insert (nodes_of kind text held p) n (node_of kind text new r)
+  nodes-kept : (new : List ℕ) → nodes_of kind text new p ≡ fin.insert (nodes_of kind text held p) n (node_of kind text new r)
   nodes-kept new = rw (is, ← name) (sym (insert-insert no_nodes r.name (node_of kind text held r) (node_of kind text new r)))
 
   abbrev meaning : Meaning
@@ -237,15 +237,12 @@ module _ (kind : ServerKind) (text : List ℕ) (held : Kept) (p : Presence) (r :
     pub told-kept : told_of effect ≡ (step_of q n meaning).0
     told-kept = told-here meaning n (node_of kind text held r) at-there q (told_of effect) refl
 
-    pub step-kept : (same_text : List ℕ) (new : Kept) → same_text ≡ text → Steps (node_of kind text held r) (served effect (node_of kind text held r)) got (node_of kind same_text new r)
+    pub step-kept : (same_text : List ℕ) (new : List ℕ) → same_text ≡ text → Steps (node_of kind text held r) (served effect (node_of kind text held r)) got (node_of kind same_text new r)
         → Steps meaning (step_of q n meaning) got (lone_meaning kind same_text new p)
     step-kept same_text new same =
         subst (λ (t : List ℕ). Steps (node_of kind text held r) (served effect (node_of kind text held r)) got (node_of kind t new r) → Steps meaning (step_of q n meaning) got (lone_meaning kind t new p)) (sym same)
         (λ steps. step-node meaning n (node_of kind text held r) at-there q got (node_of kind text new r) (nodes_of kind text new p) steps (nodes-kept new))
 
-  -- an edit of what the node's header says
-  pub header-kept : (e : HeaderEdit) (got : Result (Unit {0}) Errno) (same_text : List ℕ) (new : Kept) → same_text ≡ text → (got, node_of kind same_text new r) ≡ header_edited (edits_header kind e) e (node_of kind text held r)
-      → (got, lone_meaning kind same_text new p) ≡ edit_header_step n e meaning
-  header-kept e got same_text new same =
-      subst (λ (t : List ℕ). (got, node_of kind t new r) ≡ header_edited (edits_header kind e) e (node_of kind text held r) → (got, lone_meaning kind t new p) ≡ edit_header_step n e meaning) (sym same)
-      (λ edited. header-here meaning n (node_of kind text held r) at-there e got (node_of kind text new r) (nodes_of kind text new p) edited (nodes-kept new))
+  -- nothing that the node's header says is edited
+  pub header-barred : keeps_tree kind ≡ false → (e : HeaderEdit) → (Err EOPNOTSUPP, meaning) ≡ edit_header_step n e meaning
+  header-barred no_tree e = rw (at-there, no_tree) refl

@@ -4,8 +4,8 @@ use Rattle.hurd_trans_iface.specs.DripKind.{drop_byte}
 use Rattle.hurd_trans_iface.specs.Meaning.{Meaning, Drip as DripKind}
 use Rattle.hurd_small.specs.declared.lone.Lone.{Lone}
 use Rattle.hurd_small.specs.declared.drops.Drops.{Drops}
-use Rattle.hurd_small.specs.Lone.{bytes_kept, lone_meaning}
+use Rattle.hurd_small.specs.Lone.{lone_meaning}
 
 -- a server of this kind and its text, whose node holds the bytes that were given
 abbrev pub drip_meaning : Lone Drops → Meaning
-drip_meaning s = lone_meaning DripKind s.keeper.digits (bytes_kept (replicate s.keeper.given drop_byte)) s.presence
+drip_meaning s = lone_meaning DripKind s.keeper.digits (replicate s.keeper.given drop_byte) s.presence

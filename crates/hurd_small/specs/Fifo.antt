@@ -7,5 +7,4 @@ use Rattle.hurd_small.specs.Lone.{lone_meaning}
 
 -- a server of this kind, which has no text, and whose node holds the bytes that were written and not read yet
 abbrev pub fifo_meaning : Lone Pipe → Meaning
-fifo_meaning s =
-    lone_meaning FifoKind [] (record { bytes = s.keeper.held.items; readers = s.keeper.readers; writers = s.keeper.writers }) s.presence
+fifo_meaning s = lone_meaning FifoKind [] s.keeper.held.items s.presence

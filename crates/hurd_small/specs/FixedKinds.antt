@@ -37,7 +37,7 @@ keeps_nothing fixed.Symlink = refl
 keeps_nothing fixed.Firmlink = refl
 keeps_nothing fixed.Magic = refl
 
--- nothing counts who reads them and who writes them
+-- nothing that they say goes by who reads them or writes them
 pub counts_nothing : (k : FixedKind) → counts_opens (kind_of k) ≡ false
 counts_nothing fixed.Hello = refl
 counts_nothing fixed.Null = refl

@@ -2,46 +2,16 @@
 use Rattle.std.specs.Prelude.{◌≡◌, ℕ, Bool, true, false, if◌then◌else◌, List, [], length, nat_lt, Option, Some, None, Result, Ok, Err}
 use Rattle.std.specs.FinMap as fin
 use Rattle.hurd_creds.specs.Memory.{Meets}
-use Rattle.hurd_creds.specs.Bits.{asks, READ, WRITE}
 use Rattle.hurd_creds.specs.declared.name.Name.{Name}
-use Rattle.hurd_creds.specs.declared.open_flags.OpenFlags.{OpenFlags}
 use Rattle.hurd_creds.specs.declared.errno.Errno.{Errno}
 use Rattle.hurd_creds.specs.declared.errno.Errno.TheVariants.{EDIED, EFBIG, ENOTDIR, EROFS}
 use Rattle.hurd_creds.specs.Limits.{most_size}
-use Rattle.hurd_trans_iface.specs.Nodes.{Body, Content, Header, Listing, Node, NodeMap, is_dir, one_fewer, one_more, with_size}
+use Rattle.hurd_trans_iface.specs.Nodes.{Body, Content, Listing, Node, NodeMap, is_dir, with_size}
 use Rattle.hurd_trans_iface.specs.Behaviour.{Effect, only, told_of}
 use Rattle.hurd_trans_iface.specs.Meaning.{Meaning, ServerKind, behaviour_of, new_root, root_of}
 use Rattle.hurd_small.specs.declared.presence.LoneNode.{LoneNode}
 use Rattle.hurd_small.specs.declared.presence.Presence.{Presence}
 use Rattle.hurd_small.specs.declared.presence.Presence.TheVariants.{Nameless, There, Forgotten}
-
--- what is kept of the node of a server of one node: the bytes in it, none where it is a directory, and how many opens read it and write it
-pub record Kept : Type 0 where
-  pub bytes : List ℕ
-  pub readers : ℕ
-  pub writers : ℕ
-
--- of a node that holds no bytes, and that nothing counts
-abbrev pub nothing_kept : Kept
-nothing_kept = record { bytes = []; readers = 0; writers = 0 }
-
--- bytes alone
-abbrev pub bytes_kept : List ℕ → Kept
-bytes_kept bs = record { bytes = bs; readers = 0; writers = 0 }
-
--- opened once more with these modes, where the kind counts that
-abbrev pub opened_kept : Bool → OpenFlags → Kept → Kept
-opened_kept true modes k = record k { readers = one_more (asks modes READ) k.readers; writers = one_more (asks modes WRITE) k.writers }
-opened_kept false modes k = k
-
--- an open with these modes has gone, where the kind counts that
-abbrev pub closed_kept : Bool → OpenFlags → Kept → Kept
-closed_kept true modes k = record k { readers = one_fewer (asks modes READ) k.readers; writers = one_fewer (asks modes WRITE) k.writers }
-closed_kept false modes k = k
-
--- with as many readers and writers as are kept
-abbrev pub with_opens : Kept → Header → Header
-with_opens kept h = record h { readers = kept.readers; writers = kept.writers }
 
 -- what is in a node that holds these bytes, or no entries where it is a directory
 abbrev pub filled : Bool → List ℕ → Body
@@ -52,18 +22,18 @@ filled false held = Content held
 abbrev pub body_with : ServerKind → List ℕ → List ℕ → Body
 body_with kind text held = filled (is_dir (root_of kind text).kind) held
 
--- the node of a server of this kind and text of which this is kept
-abbrev pub node_of : ServerKind → List ℕ → Kept → LoneNode → Node
-node_of kind text kept n = record {
-  header = with_opens kept (with_size ((behaviour_of kind).size text (body_with kind text kept.bytes)) (new_root (behaviour_of kind) text n.owner n.group n.mode).header);
-  body = body_with kind text kept.bytes;
+-- the node of a server of this kind and text that holds these bytes
+abbrev pub node_of : ServerKind → List ℕ → List ℕ → LoneNode → Node
+node_of kind text held n = record {
+  header = with_size ((behaviour_of kind).size text (body_with kind text held)) (new_root (behaviour_of kind) text n.owner n.group n.mode).header;
+  body = body_with kind text held;
 }
 
 -- the one node, where it is there
-abbrev pub nodes_of : ServerKind → List ℕ → Kept → Presence → NodeMap
-nodes_of kind text kept Nameless = fin.empty
-nodes_of kind text kept (There n) = fin.insert fin.empty n.name (node_of kind text kept n)
-nodes_of kind text kept (Forgotten name) = fin.empty
+abbrev pub nodes_of : ServerKind → List ℕ → List ℕ → Presence → NodeMap
+nodes_of kind text held Nameless = fin.empty
+nodes_of kind text held (There n) = fin.insert fin.empty n.name (node_of kind text held n)
+nodes_of kind text held (Forgotten name) = fin.empty
 
 -- the node's name, which it keeps when it is forgotten
 abbrev pub root_name : Presence → Option Name
@@ -72,8 +42,8 @@ root_name (There n) = Some n.name
 root_name (Forgotten name) = Some name
 
 -- what a server of one node means
-abbrev pub lone_meaning : ServerKind → List ℕ → Kept → Presence → Meaning
-lone_meaning kind text kept p = record { kind = kind; text = text; root = root_name p; nodes = nodes_of kind text kept p }
+abbrev pub lone_meaning : ServerKind → List ℕ → List ℕ → Presence → Meaning
+lone_meaning kind text held p = record { kind = kind; text = text; root = root_name p; nodes = nodes_of kind text held p }
 
 -- the answer to options, and the text that they leave
 abbrev pub text_taken : Result (Option (List ℕ)) Errno → List ℕ → Result (Unit {0}) Errno × List ℕ

@@ -2,11 +2,10 @@
 ghost use Rattle.std.specs.Prelude.{◌≡◌, ◌≤◌, length, replicate, refl};
 ghost use Rattle.hurd_trans_iface.specs.DripKind.{drop_byte, drops_of, most_drops};
 ghost use Rattle.hurd_trans_iface.specs.Meaning.{Drip as DripKind};
-ghost use Rattle.hurd_small.specs.Lone.{bytes_kept};
 
 use crate::keeper::Keeper;
 use crate::words::no_options;
-use hurd_creds::{Bytes, Errno, Kind, MOST_SIZE, OpenFlags};
+use hurd_creds::{Bytes, Errno, Kind, MOST_SIZE};
 use hurd_trans_iface::{Names, Root, Words};
 use std::alloc::Global;
 
@@ -33,7 +32,7 @@ impl Keeper for Drops {
 
     ghost text = { λ s. s.digits };
 
-    ghost held = { λ s. bytes_kept (replicate s.given drop_byte) };
+    ghost held = { λ s. replicate s.given drop_byte };
 
     ghost no_tree = { λ _. refl };
 
@@ -72,7 +71,13 @@ impl Keeper for Drops {
         &DROPS[..self.given]
     }
 
-    fn read(&mut self, alloc: Global, _at: u64, amount: u64) -> Result<Bytes, Errno> {
+    fn read(
+        &mut self,
+        alloc: Global,
+        _at: u64,
+        amount: u64,
+        _writers: u128,
+    ) -> Result<Bytes, Errno> {
         if self.given == self.count {
             return Err(Errno::EIO);
         }
@@ -84,7 +89,7 @@ impl Keeper for Drops {
         Ok(drop)
     }
 
-    fn write(&mut self, _at: u64, _bytes: &[u8]) -> Result<u64, Errno> {
+    fn write(&mut self, _at: u64, _bytes: &[u8], _readers: u128) -> Result<u64, Errno> {
         Err(Errno::EOPNOTSUPP)
     }
 
@@ -99,19 +104,7 @@ impl Keeper for Drops {
         u64::from(self.given < self.count)
     }
 
-    fn readers(&self) -> u128 {
-        0
-    }
-
-    fn writers(&self) -> u128 {
-        0
-    }
-
     fn counts(&self) -> bool {
         false
     }
-
-    fn opened(&mut self, _modes: OpenFlags) {}
-
-    fn closed(&mut self, _modes: OpenFlags) {}
 }

@@ -40,8 +40,6 @@ impl Lone<Pipe> {
         Lone {
             keeper: Pipe {
                 held: ArrayVec::new(),
-                readers: 0,
-                writers: 0,
             },
             presence: Presence::Nameless,
         }

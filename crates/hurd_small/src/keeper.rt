@@ -1,17 +1,16 @@
 //! What a server of one node says itself, and what it keeps of the node.
 ghost use Rattle.std.specs.Prelude.{◌≡◌, ℕ, false, List, [], Ok};
 ghost use Rattle.hurd_creds.specs.Memory.{Meets, Steps};
-ghost use Rattle.hurd_trans_iface.specs.Answers.{header_edited};
 ghost use Rattle.hurd_trans_iface.specs.Behaviour.{served, told_of};
-ghost use Rattle.hurd_trans_iface.specs.Meaning.{ServerKind, behaviour_of, counts_opens, edits_header, keeps_tree, options_of, root_of, targets_of};
+ghost use Rattle.hurd_trans_iface.specs.Meaning.{ServerKind, behaviour_of, counts_opens, keeps_tree, options_of, root_of, targets_of};
 ghost use Rattle.hurd_small.specs.declared.presence.LoneNode.{LoneNode};
-ghost use Rattle.hurd_small.specs.Lone.{Kept, body_with, closed_kept, node_of, nothing_kept, opened_kept, text_taken};
+ghost use Rattle.hurd_small.specs.Lone.{body_with, node_of, text_taken};
 
-use hurd_creds::{Bytes, Errno, OpenFlags};
-use hurd_trans_iface::{HeaderEdit, Names, Root, Words};
+use hurd_creds::{Bytes, Errno};
+use hurd_trans_iface::{Names, Root, Words};
 use std::alloc::Global;
 
-/// What a server of one node says of it, and what it keeps: options change the one; reads, writes and opens the other. Nothing but options, and what says what
+/// What a server of one node says of it, and what it keeps: options change the one; reads and writes the other. Nothing but options, and what says what
 /// the node is, is asked where the node isn't there.
 pub trait Keeper: Drop {
     // The kind of its server.
@@ -20,8 +19,8 @@ pub trait Keeper: Drop {
     // The text of its server.
     ghost text: { Self → List ℕ };
 
-    // What it keeps of the node: the bytes in it, none where that is a directory, and how many opens read it and write it.
-    ghost held: { Self → Kept };
+    // What it keeps of the node: the bytes in it, none where that is a directory.
+    ghost held: { Self → List ℕ };
 
     /// What the node is.
     fn root(&self) -> Root
@@ -53,37 +52,37 @@ pub trait Keeper: Drop {
         ensures meets { Meets (Ok (targets_of (kind self.now) (text self.now))) result }
         ensures nothing { targets_of (kind self.now) (text self.now) ≡ [] → result ≡ Ok [] };
 
-    /// The node begins: it holds nothing, and nothing has it open.
+    /// The node begins: it holds nothing.
     fn begin(&mut self)
         ensures kind { kind self.new ≡ kind self.old }
         ensures text { text self.new ≡ text self.old }
-        ensures held { held self.new ≡ nothing_kept };
+        ensures held { held self.new ≡ [] };
 
     /// The node's size, in bytes.
     fn size(&self) -> u64
-        ensures { result ≡ (behaviour_of (kind self.now)).size (text self.now) (body_with (kind self.now) (text self.now) (held self.now).bytes) };
+        ensures { result ≡ (behaviour_of (kind self.now)).size (text self.now) (body_with (kind self.now) (text self.now) (held self.now)) };
 
     /// The bytes in the node, lent.
     fn bytes(&self) -> &[u8]
-        ensures { result.now ≡ (held self.now).bytes };
+        ensures { result.now ≡ held self.now };
 
-    /// At most `amount` bytes from `at` on; where there are none, no memory is taken.
+    /// At most `amount` bytes from `at` on, where so many opens write the node; where there are none, no memory is taken.
     ///
     /// Errors: what its kind says, else `ENOMEM`.
-    fn read(&mut self, alloc: Global, at: u64, amount: u64) -> Result<Bytes, Errno>
+    fn read(&mut self, alloc: Global, at: u64, amount: u64, writers: u128) -> Result<Bytes, Errno>
         ensures steps { (n : LoneNode) → let x = node_of (kind self.old) (text self.old) (held self.old) n in
-            Steps x (served ((behaviour_of (kind self.old)).read (text self.old) x at amount) x) result (node_of (kind self.old) (text self.new) (held self.new) n) }
+            Steps x (served ((behaviour_of (kind self.old)).read (text self.old) x at amount writers) x) result (node_of (kind self.old) (text self.new) (held self.new) n) }
         ensures nothing { (n : LoneNode) → let x = node_of (kind self.old) (text self.old) (held self.old) n in
-            told_of ((behaviour_of (kind self.old)).read (text self.old) x at amount) ≡ Ok [] → result ≡ Ok [] }
+            told_of ((behaviour_of (kind self.old)).read (text self.old) x at amount writers) ≡ Ok [] → result ≡ Ok [] }
         ensures kind { kind self.new ≡ kind self.old }
         ensures text { text self.new ≡ text self.old };
 
-    /// Puts bytes at a place, and answers how many are taken. Takes no memory.
+    /// Puts bytes at a place, where so many opens read the node, and answers how many are taken. Takes no memory.
     ///
     /// Errors: what its kind says.
-    fn write(&mut self, at: u64, bytes: &[u8]) -> Result<u64, Errno>
+    fn write(&mut self, at: u64, bytes: &[u8], readers: u128) -> Result<u64, Errno>
         ensures steps { (n : LoneNode) → let x = node_of (kind self.old) (text self.old) (held self.old) n in
-            (result, node_of (kind self.old) (text self.new) (held self.new) n) ≡ served ((behaviour_of (kind self.old)).write (text self.old) x at bytes.now) x }
+            (result, node_of (kind self.old) (text self.new) (held self.new) n) ≡ served ((behaviour_of (kind self.old)).write (text self.old) x at bytes.now readers) x }
         ensures kind { kind self.new ≡ kind self.old }
         ensures text { text self.new ≡ text self.old };
 
@@ -100,50 +99,10 @@ pub trait Keeper: Drop {
     fn readable(&self, at: u64) -> u64
         ensures { (n : LoneNode) → result ≡ (behaviour_of (kind self.now)).readable (text self.now) (node_of (kind self.now) (text self.now) (held self.now) n) at };
 
-    /// How many opens read the node, where its kind counts that.
-    fn readers(&self) -> u128
-        ensures { result ≡ (held self.now).readers };
-
-    /// How many opens write the node, where its kind counts that.
-    fn writers(&self) -> u128
-        ensures { result ≡ (held self.now).writers };
-
-    /// Whether its kind counts who reads and who writes.
+    /// Whether reads and writes go by how many opens write and read the node.
     fn counts(&self) -> bool
         ensures { result ≡ counts_opens (kind self.now) };
 
-    /// The node is opened with these modes: one more of each that they ask for, where its kind counts that. Takes no memory.
-    fn opened(&mut self, modes: OpenFlags)
-        ensures held { held self.new ≡ opened_kept (counts_opens (kind self.old)) modes (held self.old) }
-        ensures kind { kind self.new ≡ kind self.old }
-        ensures text { text self.new ≡ text self.old };
-
-    /// An open of the node with these modes has gone: one fewer of each, where its kind counts that. Takes no memory.
-    fn closed(&mut self, modes: OpenFlags)
-        ensures held { held self.new ≡ closed_kept (counts_opens (kind self.old)) modes (held self.old) }
-        ensures kind { kind self.new ≡ kind self.old }
-        ensures text { text self.new ≡ text self.old };
-
     // Nothing is made in it.
     ghost no_tree: { (s : Self) → keeps_tree (kind s) ≡ false };
-}
-
-/// Edits what the header of the node says: opens are counted, where its kind counts them, and nothing else changes.
-///
-/// Errors: `EOPNOTSUPP` no open and no close, or the kind doesn't count them.
-pub(crate) fn recount<K: Keeper>(keeper: &mut K, edit: HeaderEdit) -> Result<(), Errno>
-    ensures is { (n : LoneNode) → let x = node_of (K.kind keeper.old) (K.text keeper.old) (K.held keeper.old) n in
-        (result, node_of (K.kind keeper.old) (K.text keeper.new) (K.held keeper.new) n) ≡ header_edited (edits_header (K.kind keeper.old) edit) edit x }
-    ensures kind { K.kind keeper.new ≡ K.kind keeper.old }
-    ensures text { K.text keeper.new ≡ K.text keeper.old }
-{
-    if !edit.is_made(false, keeper.counts()) {
-        return Err(Errno::EOPNOTSUPP);
-    }
-    match edit {
-        HeaderEdit::CountOpen(modes) => keeper.opened(modes),
-        HeaderEdit::CountClose(modes) => keeper.closed(modes),
-        HeaderEdit::SetAttrs { .. } | HeaderEdit::SetPassive(_) => {}
-    }
-    Ok(())
 }

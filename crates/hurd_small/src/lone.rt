@@ -5,7 +5,7 @@ ghost use Rattle.hurd_trans_iface.specs.Nodes.{is_dir};
 ghost use Rattle.hurd_trans_iface.specs.Meaning.{root_of};
 ghost use Rattle.hurd_small.specs.Lone.{barred_by, lone_meaning, nodes_of};
 
-use crate::keeper::{Keeper, recount};
+use crate::keeper::Keeper;
 use crate::presence::{LoneNode, Presence};
 use hurd_creds::{Attrs, Bytes, Errno, Mode, NodeName};
 use hurd_trans_iface::{HeaderEdit, Names, NewNode, Root, Server, Words, is_dir};
@@ -81,8 +81,6 @@ impl<K: Keeper> Server for Lone<K> {
             links: 1,
             size: self.keeper.size(),
             empty: self.has_dir(),
-            readers: self.keeper.readers(),
-            writers: self.keeper.writers(),
             passive: false,
             active: false,
             parent: None,
@@ -107,16 +105,23 @@ impl<K: Keeper> Server for Lone<K> {
         node: NodeName,
         at: u64,
         amount: u64,
+        writers: u128,
     ) -> Result<Bytes, Errno> {
         match self.presence.find(node) {
-            Some(_) => self.keeper.read(alloc, at, amount),
+            Some(_) => self.keeper.read(alloc, at, amount, writers),
             None => Err(Errno::EDIED),
         }
     }
 
-    fn write(&mut self, node: NodeName, at: u64, bytes: &[u8]) -> Result<u64, Errno> {
+    fn write(
+        &mut self,
+        node: NodeName,
+        at: u64,
+        bytes: &[u8],
+        readers: u128,
+    ) -> Result<u64, Errno> {
         match self.presence.find(node) {
-            Some(_) => self.keeper.write(at, bytes),
+            Some(_) => self.keeper.write(at, bytes, readers),
             None => Err(Errno::EDIED),
         }
     }
@@ -181,9 +186,9 @@ impl<K: Keeper> Server for Lone<K> {
         None
     }
 
-    fn edit_header(&mut self, node: NodeName, edit: HeaderEdit) -> Result<(), Errno> {
+    fn edit_header(&mut self, node: NodeName, _edit: HeaderEdit) -> Result<(), Errno> {
         match self.presence.find(node) {
-            Some(_) => recount(&mut self.keeper, edit),
+            Some(_) => Err(Errno::EOPNOTSUPP),
             None => Err(Errno::EDIED),
         }
     }

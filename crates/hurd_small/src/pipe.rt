@@ -1,22 +1,19 @@
-//! What a pipe holds, and how many have it open.
+//! What a pipe holds.
 ghost use Rattle.std.specs.Prelude.{◌≡◌, ◌≤◌, ◌+◌, [], ◌++◌, drop, length, refl};
 ghost use Rattle.arrayvec.specs.ArrayVec.{array_vec_len};
-ghost use Rattle.hurd_trans_iface.specs.Nodes.{one_fewer, one_more};
 ghost use Rattle.hurd_trans_iface.specs.Meaning.{Fifo as FifoKind};
 
 use crate::keeper::Keeper;
 use crate::words::no_options;
 use arrayvec::ArrayVec;
-use hurd_creds::{Bytes, Errno, Kind, MOST_SIZE, OpenFlags};
+use hurd_creds::{Bytes, Errno, Kind, MOST_SIZE};
 use hurd_trans_iface::{Names, Root, Words};
 use std::alloc::Global;
 
-/// The bytes between those who write and those who read, and how many do.
+/// The bytes between those who write and those who read.
 #[derive(Drop)]
 pub struct Pipe {
     pub(crate) held: ArrayVec<u8, 4096>,
-    pub(crate) readers: u128,
-    pub(crate) writers: u128,
 }
 
 /// Puts bytes behind those that are held.
@@ -38,34 +35,12 @@ fn behind(bytes: &[u8], count: usize) -> ArrayVec<u8, 4096>
     rest
 }
 
-/// A count of opens with one more, where that is for this; it stops at the greatest number.
-fn one_more(is_for: bool, count: u128) -> u128
-    ensures { result ≡ one_more is_for count }
-{
-    if is_for {
-        count.saturating_add(1)
-    } else {
-        count
-    }
-}
-
-/// A count of opens with one fewer, where that was for this.
-fn one_fewer(is_for: bool, count: u128) -> u128
-    ensures { result ≡ one_fewer is_for count }
-{
-    if is_for {
-        count.saturating_sub(1)
-    } else {
-        count
-    }
-}
-
 impl Keeper for Pipe {
     ghost kind = { λ _. FifoKind };
 
     ghost text = { λ _. [] };
 
-    ghost held = { λ s. record { bytes = s.held.items; readers = s.readers; writers = s.writers } };
+    ghost held = { λ s. s.held.items };
 
     ghost no_tree = { λ _. refl };
 
@@ -94,8 +69,6 @@ impl Keeper for Pipe {
 
     fn begin(&mut self) {
         self.held.clear();
-        self.readers = 0;
-        self.writers = 0;
     }
 
     fn size(&self) -> u64 {
@@ -106,12 +79,18 @@ impl Keeper for Pipe {
         self.held.as_slice()
     }
 
-    fn read(&mut self, alloc: Global, _at: u64, amount: u64) -> Result<Bytes, Errno> {
+    fn read(
+        &mut self,
+        alloc: Global,
+        _at: u64,
+        amount: u64,
+        writers: u128,
+    ) -> Result<Bytes, Errno> {
         if amount == 0 {
             return Ok(Bytes::new(Vec::new(alloc)));
         }
         if self.held.is_empty() {
-            if self.writers > 0 {
+            if writers > 0 {
                 return Err(Errno::EWOULDBLOCK);
             }
             return Ok(Bytes::new(Vec::new(alloc)));
@@ -122,8 +101,8 @@ impl Keeper for Pipe {
         Ok(first)
     }
 
-    fn write(&mut self, _at: u64, bytes: &[u8]) -> Result<u64, Errno> {
-        if self.readers == 0 {
+    fn write(&mut self, _at: u64, bytes: &[u8], readers: u128) -> Result<u64, Errno> {
+        if readers == 0 {
             return Err(Errno::EPIPE);
         }
         if bytes.is_empty() {
@@ -149,25 +128,7 @@ impl Keeper for Pipe {
         self.held.len() as u64
     }
 
-    fn readers(&self) -> u128 {
-        self.readers
-    }
-
-    fn writers(&self) -> u128 {
-        self.writers
-    }
-
     fn counts(&self) -> bool {
         true
-    }
-
-    fn opened(&mut self, modes: OpenFlags) {
-        self.readers = one_more(modes.asks(OpenFlags::READ), self.readers);
-        self.writers = one_more(modes.asks(OpenFlags::WRITE), self.writers);
-    }
-
-    fn closed(&mut self, modes: OpenFlags) {
-        self.readers = one_fewer(modes.asks(OpenFlags::READ), self.readers);
-        self.writers = one_fewer(modes.asks(OpenFlags::WRITE), self.writers);
     }
 }

@@ -3,7 +3,7 @@ ghost use Rattle.std.specs.Prelude.{◌≡◌, ℕ, List, IfSome};
 ghost use Rattle.std.specs.Option.{option_map};
 ghost use Rattle.std.specs.FinMap as fin;
 ghost use Rattle.hurd_trans_iface.specs.Meaning.{ServerKind};
-ghost use Rattle.hurd_small.specs.Lone.{Kept, node_of, nodes_of};
+ghost use Rattle.hurd_small.specs.Lone.{node_of, nodes_of};
 
 use hurd_creds::{Mode, NodeName};
 
@@ -27,7 +27,7 @@ pub(crate) enum Presence {
 impl Presence {
     /// The node of a name, if it is there.
     pub(crate) fn find(&self, node: NodeName) -> Option<LoneNode>
-        ensures found { (kind : ServerKind) (text : List ℕ) (kept : Kept) → option_map (node_of kind text kept) result ≡ fin.get (nodes_of kind text kept self.now) node }
+        ensures found { (kind : ServerKind) (text : List ℕ) (held : List ℕ) → option_map (node_of kind text held) result ≡ fin.get (nodes_of kind text held self.now) node }
         ensures there { IfSome result (λ lone. (self.now ≡ Presence.There lone) × (lone.name ≡ node)) }
     {
         match self {

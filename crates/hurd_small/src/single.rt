@@ -55,14 +55,14 @@ pub trait Single: Drop {
     ///
     /// Errors: `EISDIR` of a directory, else `ENOMEM`.
     fn read(&self, alloc: Global, at: u64, amount: u64) -> Result<Bytes, Errno>
-        ensures given { (x : Node) → IsGiven ((behaviour_of (kind self.now)).read (text self.now) x at amount) result }
-        ensures nothing { (x : Node) → told_of ((behaviour_of (kind self.now)).read (text self.now) x at amount) ≡ Ok [] → result ≡ Ok [] };
+        ensures given { (x : Node) (writers : ℕ) → IsGiven ((behaviour_of (kind self.now)).read (text self.now) x at amount writers) result }
+        ensures nothing { (x : Node) (writers : ℕ) → told_of ((behaviour_of (kind self.now)).read (text self.now) x at amount writers) ≡ Ok [] → result ≡ Ok [] };
 
     /// Whether bytes that are written are taken, and dropped; so are sizes up to 16,777,216.
     ///
     /// Errors: `EOPNOTSUPP`, or `EBADF` of a directory.
     fn takes(&self) -> Result<(), Errno>
-        ensures bytes { (x : Node) (at : ℕ) (bs : List ℕ) → IsPut ((behaviour_of (kind self.now)).write (text self.now) x at bs) bs result }
+        ensures bytes { (x : Node) (at : ℕ) (bs : List ℕ) (readers : ℕ) → IsPut ((behaviour_of (kind self.now)).write (text self.now) x at bs readers) bs result }
         ensures sizes { (x : Node) (size : ℕ) → IsCut ((behaviour_of (kind self.now)).set_size (text self.now) x size) size result };
 
     /// How many bytes there are to read at a place.
@@ -72,6 +72,6 @@ pub trait Single: Drop {
     // Nothing is made in it.
     ghost no_tree: { (s : Self) → keeps_tree (kind s) ≡ false };
 
-    // Nothing counts who reads it and who writes it.
+    // Nothing that it says goes by who reads it or writes it.
     ghost no_count: { (s : Self) → counts_opens (kind s) ≡ false };
 }

@@ -1,14 +1,13 @@
 //! A server of one node of which nothing changes.
-ghost use Rattle.std.specs.Prelude.{◌≡◌, ℕ, List};
+ghost use Rattle.std.specs.Prelude.{◌≡◌, ℕ, List, []};
 ghost use Rattle.hurd_trans_iface.specs.Meaning.{ServerKind, new_server};
-ghost use Rattle.hurd_small.specs.Lone.{nothing_kept};
 ghost use Rattle.hurd_small.specs.Meanings.{meaning_as};
 
 use crate::keeper::Keeper;
 use crate::lone::Lone;
 use crate::presence::Presence;
 use crate::single::Single;
-use hurd_creds::{Bytes, Errno, MOST_SIZE, OpenFlags};
+use hurd_creds::{Bytes, Errno, MOST_SIZE};
 use hurd_trans_iface::{Names, Root, Words};
 use std::alloc::Global;
 
@@ -35,7 +34,7 @@ impl<S: Single> Keeper for Still<S> {
 
     ghost text = { λ s. S.text s.single };
 
-    ghost held = { λ _. nothing_kept };
+    ghost held = { λ _. [] };
 
     ghost no_tree = { λ s. S.no_tree s.single };
 
@@ -69,11 +68,17 @@ impl<S: Single> Keeper for Still<S> {
         &[]
     }
 
-    fn read(&mut self, alloc: Global, at: u64, amount: u64) -> Result<Bytes, Errno> {
+    fn read(
+        &mut self,
+        alloc: Global,
+        at: u64,
+        amount: u64,
+        _writers: u128,
+    ) -> Result<Bytes, Errno> {
         self.single.read(alloc, at, amount)
     }
 
-    fn write(&mut self, _at: u64, bytes: &[u8]) -> Result<u64, Errno> {
+    fn write(&mut self, _at: u64, bytes: &[u8], _readers: u128) -> Result<u64, Errno> {
         self.single.takes()?;
         Ok(bytes.len() as u64)
     }
@@ -89,19 +94,7 @@ impl<S: Single> Keeper for Still<S> {
         self.single.readable(at)
     }
 
-    fn readers(&self) -> u128 {
-        0
-    }
-
-    fn writers(&self) -> u128 {
-        0
-    }
-
     fn counts(&self) -> bool {
         false
     }
-
-    fn opened(&mut self, _modes: OpenFlags) {}
-
-    fn closed(&mut self, _modes: OpenFlags) {}
 }

@@ -23,11 +23,11 @@ module _ (text : List ℕ) (h : Header) where
   abbrev Kept : {T : Type 0} → Body → Did T → Type 0
   Kept c d = IsKept fifo (MayHold Fifo) text (record { header = h; body = c }) d
 
-  fifo_gives : (c : Body) (amount : ℕ) → IsFine (Kept c) (fifo_read h.writers c amount)
-  fifo_gives (Listing es) amount = refl
-  fifo_gives (Content bs) zero = (λ shaped sized. sized, λ held. held)
-  fifo_gives (Content []) (suc k) = fine_if (Kept (Content [])) (nat_lt 0 h.writers) _ _ (λ some. refl) (λ none. (λ shaped sized. sized, λ held. held))
-  fifo_gives (Content (b ∷ bs)) (suc k) = (λ shaped sized. sized, λ held. let less = length-drop k bs in grind (arith, less, held))
+  fifo_gives : (writers : ℕ) (c : Body) (amount : ℕ) → IsFine (Kept c) (fifo_read writers c amount)
+  fifo_gives writers (Listing es) amount = refl
+  fifo_gives writers (Content bs) zero = (λ shaped sized. sized, λ held. held)
+  fifo_gives writers (Content []) (suc k) = fine_if (Kept (Content [])) (nat_lt 0 writers) _ _ (λ some. refl) (λ none. (λ shaped sized. sized, λ held. held))
+  fifo_gives writers (Content (b ∷ bs)) (suc k) = (λ shaped sized. sized, λ held. let less = length-drop k bs in grind (arith, less, held))
 
   fifo_takes : (c : Body) (room : ℕ) (bs : List ℕ) → room ≡ room_in c → IsFine (Kept c) (taken_in room bs)
   fifo_takes c room [] is = (λ shaped sized. sized, λ held. held)
@@ -35,8 +35,8 @@ module _ (text : List ℕ) (h : Header) where
   fifo_takes (Content old) (suc k) (b ∷ bs) is = (λ shaped sized. sized, λ held. put_fits old (b ∷ bs) k is)
   fifo_takes (Listing es) (suc k) (b ∷ bs) is = (λ shaped sized. sized, λ held. held)
 
-  fifo_puts : (c : Body) (bs : List ℕ) → IsFine (Kept c) (fifo_write h.readers c bs)
-  fifo_puts c bs = fine_if (Kept c) (h.readers == 0) _ _ (λ none. refl) (λ some. fifo_takes c (room_in c) bs refl)
+  fifo_puts : (readers : ℕ) (c : Body) (bs : List ℕ) → IsFine (Kept c) (fifo_write readers c bs)
+  fifo_puts readers c bs = fine_if (Kept c) (readers == 0) _ _ (λ none. refl) (λ some. fifo_takes c (room_in c) bs refl)
 
   -- a size too great is refused, and any other changes nothing
   fifo_cuts : (c : Body) (size : ℕ) → IsFine (Kept c) (fifo.set_size text (record { header = h; body = c }) size)
@@ -58,8 +58,8 @@ fifo_owes = record {
     rooted = λ text. refl;
     tree = treeless fifo (MayHold Fifo) refl;
     begun = λ text. begun_held;
-    read = λ at amount text x. fifo_gives text x.header x.body amount;
-    write = λ at bs text x. fifo_puts text x.header x.body bs;
+    read = λ at amount writers text x. fifo_gives text x.header writers x.body amount;
+    write = λ at bs readers text x. fifo_puts text x.header readers x.body bs;
     set_size = λ size text x. fifo_cuts text x.header x.body size;
     entered = λ text name n c. refl;
     removed = λ text name c. refl;

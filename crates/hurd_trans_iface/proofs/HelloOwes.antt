@@ -87,7 +87,7 @@ hello_guards = record {
   reads_alike = λ old new. refl;
   read_untold = λ text out. absurd (true≢false out);
   readable_untold = λ text out. absurd (true≢false out);
-  write_untold = λ old new x at bs. refl;
+  write_untold = λ old new x at bs readers. refl;
   set_size_untold = λ old new x size. refl;
 }
 

@@ -11,11 +11,11 @@ use Rattle.hurd_creds.specs.declared.errno.Errno.TheVariants.{EDIED, EOPNOTSUPP}
 use Rattle.hurd_creds.proofs.NameLaws.{get_here, edit_found, insert_same, insert-insert}
 use Rattle.hurd_creds.proofs.StepLaws.{steps-refused, steps-inside}
 use Rattle.hurd_trans_iface.specs.declared.header_edit.HeaderEdit.{HeaderEdit}
-use Rattle.hurd_trans_iface.specs.declared.header_edit.HeaderEdit.TheVariants.{SetAttrs, SetPassive, CountOpen, CountClose}
+use Rattle.hurd_trans_iface.specs.declared.header_edit.HeaderEdit.TheVariants.{SetAttrs, SetPassive}
 use Rattle.hurd_trans_iface.specs.Nodes.{Node, NodeMap, Reaches, body_of, is_entered, edit_all, with_header, with_body, with_size, on_bytes}
 use Rattle.hurd_trans_iface.specs.Behaviour.{Effect, Question, effect_on, told_of, edit_bytes, edit_size, edits_of, size_left, bytes_left, left_by, served}
 use Rattle.hurd_trans_iface.specs.Answers.{header_after, header_edits, header_edited, set_header_of, edits_if}
-use Rattle.hurd_trans_iface.specs.Meaning.{Meaning, behaviour_of, edited, edits_header, edit_header_step, step_of}
+use Rattle.hurd_trans_iface.specs.Meaning.{Meaning, behaviour_of, edited, keeps_tree, edit_header_step, step_of}
 
 -- a value put in where another one is edited
 pub edit-inserted : {X : Type 0} (m : NameMap X) (n : Name) (x : X) (f : X → X) → edit n f (fin.insert m n x) ≡ fin.insert m n (f x)
@@ -83,23 +83,21 @@ module _ (m : Meaning) (n : Name) (x : Node) (at_n : fin.get m.nodes n ≡ Some 
   header-at false e got y ns is new =
       rw (new, ap (λ s. s.0) is, ap (λ s. s.1) is) (ap (λ (z : Meaning). let s : Result (Unit {0}) Errno × Meaning = (Err EOPNOTSUPP, z) in s) with_same)
 
-  pub header-here : (e : HeaderEdit) (got : Result (Unit {0}) Errno) (y : Node) (ns : NodeMap) → (got, y) ≡ header_edited (edits_header m.kind e) e x → ns ≡ fin.insert m.nodes n y
+  pub header-here : (e : HeaderEdit) (got : Result (Unit {0}) Errno) (y : Node) (ns : NodeMap) → (got, y) ≡ header_edited (keeps_tree m.kind) e x → ns ≡ fin.insert m.nodes n y
       → (got, with_nodes m ns) ≡ edit_header_step n e m
   header-here e got y ns is new =
-      header-at (edits_header m.kind e) e got y ns is new ∙ sym (ap (answered_by e) (ap (set_header_of (edits_header m.kind e)) at_n))
+      header-at (keeps_tree m.kind) e got y ns is new ∙ sym (ap (answered_by e) (ap (set_header_of (keeps_tree m.kind)) at_n))
 
 -- a node that an entry names stays one when its header is edited
 pub edited-entered : (b : Bool) (e : HeaderEdit) (x y : Node) (got : Result (Unit {0}) Errno) → (got, y) ≡ header_edited b e x → is_entered x.header ≡ true → is_entered y.header ≡ true
 edited-entered false e x y got is h = ap (λ s. is_entered s.1.header) is ∙ h
 edited-entered true (SetAttrs owner group mode) x y got is h = ap (λ s. is_entered s.1.header) is ∙ h
 edited-entered true (SetPassive words) x y got is h = ap (λ s. is_entered s.1.header) is ∙ h
-edited-entered true (CountOpen modes) x y got is h = ap (λ s. is_entered s.1.header) is ∙ h
-edited-entered true (CountClose modes) x y got is h = ap (λ s. is_entered s.1.header) is ∙ h
 
 -- no such node
 pub header-nowhere : (e : HeaderEdit) (m : Meaning) (n : Name) → fin.get m.nodes n ≡ None → (Err EDIED, m) ≡ edit_header_step n e m
 header-nowhere e m n none =
-    sym (ap (λ (answer : Result (Unit {0}) Errno). let s : Result (Unit {0}) Errno × Meaning = (answer, edited (edits_if answer (header_edits n e)) m) in s) (ap (set_header_of (edits_header m.kind e)) none))
+    sym (ap (λ (answer : Result (Unit {0}) Errno). let s : Result (Unit {0}) Errno × Meaning = (answer, edited (edits_if answer (header_edits n e)) m) in s) (ap (set_header_of (keeps_tree m.kind)) none))
 
 pub told-nowhere : {T : Type 0} (q : Question T) (m : Meaning) (n : Name) → fin.get m.nodes n ≡ None → Err EDIED ≡ (step_of q n m).0
 told-nowhere q m n none = sym (ap (λ (o : Option Node). told_of (effect_on q (behaviour_of m.kind) m.text o)) none)

@@ -28,8 +28,8 @@ pub record Laws (b : Behaviour) (Holds : Body → Type 0) : Type 0 where
   pub good : GoodBehaviour b
   -- a server begins with what may be in its root
   pub begun_holds : (text : List ℕ) → Holds (empty_body (is_dir (b.root text).kind))
-  pub read_holds : (at amount : ℕ) → Keeps b Holds (reading at amount)
-  pub write_holds : (at : ℕ) (bs : List ℕ) → Keeps b Holds (writing at bs)
+  pub read_holds : (at amount writers : ℕ) → Keeps b Holds (reading at amount writers)
+  pub write_holds : (at : ℕ) (bs : List ℕ) (readers : ℕ) → Keeps b Holds (writing at bs readers)
   pub cut_holds : (size : ℕ) → Keeps b Holds (resizing size)
   -- with an entry less no more is there than was
   pub less_holds : (name : List ℕ) (c : Body) → Holds c → Holds (without_entry name c)

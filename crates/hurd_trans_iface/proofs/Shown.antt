@@ -26,7 +26,7 @@ pub left_kept : {T : Type 0} (b : Behaviour) (Holds : Body → Type 0) (text : L
 left_kept b Holds text x (Ok d) l = (λ shaped sized. rw (l.0, l.1) sized, λ holds. rw l.0 holds)
 left_kept b Holds text x (Err e) plain = plain
 
--- where a tree is kept, nobody is counted, what is made in it has its size, and anything may be in it
+-- where a tree is kept, it is told of nobody, what is made in it has its size, and anything may be in it
 pub record TreeLaws (b : Behaviour) (Holds : Body → Type 0) : Type 0 where
   pub uncounted : b.tree ≡ true → b.counts ≡ false
   pub newborn : b.tree ≡ true → (text : List ℕ) (dir : Name) (entry : Option (List ℕ)) (new : NewNode) (x : Node) → made_node dir entry new ≡ Some x → IsSized b text x
@@ -44,15 +44,15 @@ pub record Shown (b : Behaviour) (Holds : Body → Type 0) : Type 0 where
   pub rooted : (text : List ℕ) → is_tree (b.root text) ≡ b.tree
   pub tree : TreeLaws b Holds
   pub begun : (text : List ℕ) → Holds (empty_body (is_dir (b.root text).kind))
-  pub read : (at amount : ℕ) → KeptBy b Holds (reading at amount)
-  pub write : (at : ℕ) (bs : List ℕ) → KeptBy b Holds (writing at bs)
+  pub read : (at amount writers : ℕ) → KeptBy b Holds (reading at amount writers)
+  pub write : (at : ℕ) (bs : List ℕ) (readers : ℕ) → KeptBy b Holds (writing at bs readers)
   pub set_size : (size : ℕ) → KeptBy b Holds (resizing size)
   pub entered : (text name : List ℕ) (n : Name) (c : Body) → b.size text (with_entry name n c) ≡ b.size text c
   pub removed : (text name : List ℕ) (c : Body) → b.size text (without_entry name c) ≡ b.size text c
   pub less : (name : List ℕ) (c : Body) → Holds c → Holds (without_entry name c)
-  pub read_keeps : (text : List ℕ) → (b.root text).is_stream ≡ false → (x : Node) (at amount : ℕ) (d : Did (List ℕ)) → b.read text x at amount ≡ Ok d → Leaves d
+  pub read_keeps : (text : List ℕ) → (b.root text).is_stream ≡ false → (x : Node) (at amount writers : ℕ) (d : Did (List ℕ)) → b.read text x at amount writers ≡ Ok d → Leaves d
   pub guards : GuardsText b
-  pub write_blind : b.counts ≡ false → (text : List ℕ) (at : ℕ) (bs : List ℕ) → IsBlindAt b text (writing at bs)
+  pub write_blind : b.counts ≡ false → (text : List ℕ) (at : ℕ) (bs : List ℕ) (readers : ℕ) → IsBlindAt b text (writing at bs readers)
   pub set_size_blind : (text : List ℕ) (size : ℕ) → IsBlindAt b text (resizing size)
   pub again : (ws : List (List ℕ)) (text : List ℕ) → b.begins ws ≡ Some text → SaysAgain b text
   pub options : OptionLaws b
@@ -73,8 +73,8 @@ module _ (b : Behaviour) (Holds : Body → Type 0) where
     named = s.named;
     rooted = s.rooted;
     uncounted = s.tree.uncounted;
-    read_sizes = λ at amount. sizes (reading at amount) (s.read at amount);
-    write_sizes = λ at bs. sizes (writing at bs) (s.write at bs);
+    read_sizes = λ at amount writers. sizes (reading at amount writers) (s.read at amount writers);
+    write_sizes = λ at bs readers. sizes (writing at bs readers) (s.write at bs readers);
     set_size_sizes = λ size. sizes (resizing size) (s.set_size size);
     entered = s.entered;
     removed = s.removed;
@@ -86,8 +86,8 @@ module _ (b : Behaviour) (Holds : Body → Type 0) where
     no_words = s.options.no_words;
     options_root = s.options.root;
     options_plain = s.options.plain;
-    read_plain = λ at amount. plain (reading at amount) (s.read at amount);
-    write_plain = λ at bs. plain (writing at bs) (s.write at bs);
+    read_plain = λ at amount writers. plain (reading at amount writers) (s.read at amount writers);
+    write_plain = λ at bs readers. plain (writing at bs readers) (s.write at bs readers);
     set_size_plain = λ size. plain (resizing size) (s.set_size size);
   }
 
@@ -95,8 +95,8 @@ module _ (b : Behaviour) (Holds : Body → Type 0) where
   laws_by s = record {
     good = good_by s;
     begun_holds = s.begun;
-    read_holds = λ at amount. holds (reading at amount) (s.read at amount);
-    write_holds = λ at bs. holds (writing at bs) (s.write at bs);
+    read_holds = λ at amount writers. holds (reading at amount writers) (s.read at amount writers);
+    write_holds = λ at bs readers. holds (writing at bs readers) (s.write at bs readers);
     cut_holds = λ size. holds (resizing size) (s.set_size size);
     less_holds = s.less;
     tree_holds = s.tree.holds;

@@ -9,12 +9,12 @@ use Rattle.hurd_creds.specs.declared.attrs.Kind.TheVariants.{File, Dir}
 use Rattle.hurd_creds.specs.declared.errno.Errno.{Errno}
 use Rattle.hurd_creds.specs.declared.errno.Errno.TheVariants.{EEXIST, ENOENT, EXDEV, ENOTDIR, EISDIR, EROFS, EOPNOTSUPP, EDIED, EOVERFLOW}
 use Rattle.hurd_trans_iface.specs.declared.header_edit.HeaderEdit.{HeaderEdit}
-use Rattle.hurd_trans_iface.specs.declared.header_edit.HeaderEdit.TheVariants.{SetAttrs, SetPassive, CountOpen, CountClose}
+use Rattle.hurd_trans_iface.specs.declared.header_edit.HeaderEdit.TheVariants.{SetAttrs, SetPassive}
 use Rattle.hurd_trans_iface.specs.declared.new_node.NewNode.{NewNode}
 use Rattle.hurd_trans_iface.specs.declared.root.Root.{Root}
 use Rattle.hurd_trans_iface.specs.declared.root.Crossing.{Crossing}
 use Rattle.hurd_trans_iface.specs.declared.root.Crossing.TheVariants.{Plain, Link, Firm, Union}
-use Rattle.hurd_trans_iface.specs.Nodes.{Entry, Header, Body, Content, Listing, Node, Edit, OnHeader, OnBody, AddNode, is_dir, linked, unlinked, moved_to, with_attrs, with_passive, opened_by, closed_by, with_entry, without_entry, new_file, new_dir, with_header}
+use Rattle.hurd_trans_iface.specs.Nodes.{Entry, Header, Body, Content, Listing, Node, Edit, OnHeader, OnBody, AddNode, is_dir, linked, unlinked, moved_to, with_attrs, with_passive, with_entry, without_entry, new_file, new_dir, with_header}
 
 -- the node of the first entry of this name
 abbrev pub entry_in : List ℕ → List Entry → Option Name
@@ -159,21 +159,11 @@ rename_edits dir name to new (Some n) m = if is_one n m then [] else move_edits 
 abbrev pub header_after : HeaderEdit → Header → Header
 header_after (SetAttrs owner group mode) = with_attrs owner group mode
 header_after (SetPassive words) = with_passive words
-header_after (CountOpen modes) = opened_by modes
-header_after (CountClose modes) = closed_by modes
 
--- whether a server makes such an edit: owner, group and mode, and the words of a passive translator, are for one that keeps a tree, and
--- opens for one that counts them
-abbrev pub makes_edit : Bool → Bool → HeaderEdit → Bool
-makes_edit keeps counts (SetAttrs owner group mode) = keeps
-makes_edit keeps counts (SetPassive words) = keeps
-makes_edit keeps counts (CountOpen modes) = counts
-makes_edit keeps counts (CountClose modes) = counts
-
--- whether the header of a node may be edited, where its server makes such edits or doesn't
+-- whether the header of a node may be edited, whose server keeps a tree or doesn't
 abbrev pub set_header_of : Bool → Option Node → Result (Unit {0}) Errno
-set_header_of makes None = Err EDIED
-set_header_of makes (Some x) = if makes then Ok tt else Err EOPNOTSUPP
+set_header_of keeps None = Err EDIED
+set_header_of keeps (Some x) = if keeps then Ok tt else Err EOPNOTSUPP
 
 abbrev pub header_edits : Name → HeaderEdit → List Edit
 header_edits n e = OnHeader n (header_after e) ∷ []

@@ -42,14 +42,14 @@ pub record Behaviour : Type 0 where
   pub root : List ℕ → Root
   -- whether it keeps a tree: nodes can be made in its directories
   pub tree : Bool
-  -- whether it counts who reads its root and who writes it, whom it then tells of each other
+  -- whether it is told how many opens read its root, and how many write it: to whom it then tells of each other
   pub counts : Bool
   -- the size of a node, by the text and what is in the node
   pub size : List ℕ → Body → ℕ
-  -- so many bytes from a place on
-  pub read : List ℕ → Node → ℕ → ℕ → Effect (List ℕ)
-  -- bytes, put at a place: how many are taken
-  pub write : List ℕ → Node → ℕ → List ℕ → Effect ℕ
+  -- so many bytes from a place on, where so many opens write the node
+  pub read : List ℕ → Node → ℕ → ℕ → ℕ → Effect (List ℕ)
+  -- bytes, put at a place, where so many opens read the node: how many are taken
+  pub write : List ℕ → Node → ℕ → List ℕ → ℕ → Effect ℕ
   -- the node's bytes cut to a size, or grown to it
   pub set_size : List ℕ → Node → ℕ → Effect (Unit {0})
   -- how many bytes there are to read at a place
@@ -59,11 +59,11 @@ pub record Behaviour : Type 0 where
 abbrev pub Question : Type 0 → Type 0
 Question T = Behaviour → List ℕ → Node → Effect T
 
-abbrev pub reading : ℕ → ℕ → Question (List ℕ)
-reading at amount b text x = b.read text x at amount
+abbrev pub reading : ℕ → ℕ → ℕ → Question (List ℕ)
+reading at amount writers b text x = b.read text x at amount writers
 
-abbrev pub writing : ℕ → List ℕ → Question ℕ
-writing at bs b text x = b.write text x at bs
+abbrev pub writing : ℕ → List ℕ → ℕ → Question ℕ
+writing at bs readers b text x = b.write text x at bs readers
 
 abbrev pub resizing : ℕ → Question (Unit {0})
 resizing size b text x = b.set_size text x size

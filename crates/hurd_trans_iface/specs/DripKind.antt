@@ -71,8 +71,8 @@ drip = record {
   tree = false;
   counts = false;
   size = drops_left;
-  read = λ text x at amount. dripped x.header.size amount;
-  write = λ text x at bs. Err EOPNOTSUPP;
+  read = λ text x at amount writers. dripped x.header.size amount;
+  write = λ text x at bs readers. Err EOPNOTSUPP;
   set_size = λ text x size. if nat_lt most_size size then Err EFBIG else Err EOPNOTSUPP;
   readable = λ text x at. next_drop x.header.size;
 }

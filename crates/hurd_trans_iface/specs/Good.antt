@@ -48,11 +48,11 @@ pub record GuardsText (b : Behaviour) : Type 0 where
   -- whether reading gives the text is the same of each text
   pub reads_alike : (old new : List ℕ) → reads_text (b.root new) ≡ reads_text (b.root old)
   -- where reading doesn't give it, no bytes go by it, nor how many there are
-  pub read_untold : (text : List ℕ) → reads_text (b.root text) ≡ false → (at amount : ℕ) → IsUntold b (reading at amount)
+  pub read_untold : (text : List ℕ) → reads_text (b.root text) ≡ false → (at amount writers : ℕ) → IsUntold b (reading at amount writers)
   pub readable_untold : (text : List ℕ) → reads_text (b.root text) ≡ false → (old new : List ℕ) (x : Node) (at : ℕ)
       → told_text (b.root new) new ≡ told_text (b.root old) old → b.readable new x at ≡ b.readable old x at
   -- and no bytes are taken by it, and no size
-  pub write_untold : (old new : List ℕ) (x : Node) (at : ℕ) (bs : List ℕ) → b.write new x at bs ≡ b.write old x at bs
+  pub write_untold : (old new : List ℕ) (x : Node) (at : ℕ) (bs : List ℕ) (readers : ℕ) → b.write new x at bs readers ≡ b.write old x at bs readers
   pub set_size_untold : (old new : List ℕ) (x : Node) (size : ℕ) → b.set_size new x size ≡ b.set_size old x size
 
 pub record GoodBehaviour (b : Behaviour) : Type 0 where
@@ -60,25 +60,25 @@ pub record GoodBehaviour (b : Behaviour) : Type 0 where
   pub named : (text : List ℕ) → take 1 (b.options text) ≡ b.program ∷ []
   -- what its root is tells whether it keeps a tree
   pub rooted : (text : List ℕ) → is_tree (b.root text) ≡ b.tree
-  -- where it keeps one, it counts nobody
+  -- where it keeps one, it is told of nobody
   pub uncounted : b.tree ≡ true → b.counts ≡ false
-  pub read_sizes : (at amount : ℕ) → KeepsSizes b (reading at amount)
-  pub write_sizes : (at : ℕ) (bs : List ℕ) → KeepsSizes b (writing at bs)
+  pub read_sizes : (at amount writers : ℕ) → KeepsSizes b (reading at amount writers)
+  pub write_sizes : (at : ℕ) (bs : List ℕ) (readers : ℕ) → KeepsSizes b (writing at bs readers)
   pub set_size_sizes : (size : ℕ) → KeepsSizes b (resizing size)
   -- an entry more or less changes no size, and what is made in a tree has its size
   pub entered : (text name : List ℕ) (n : Name) (c : Body) → b.size text (with_entry name n c) ≡ b.size text c
   pub removed : (text name : List ℕ) (c : Body) → b.size text (without_entry name c) ≡ b.size text c
   pub newborn : b.tree ≡ true → (text : List ℕ) (dir : Name) (entry : Option (List ℕ)) (new : NewNode) (x : Node) → made_node dir entry new ≡ Some x → IsSized b text x
   -- of what is no stream a read changes nothing
-  pub read_keeps : (text : List ℕ) → (b.root text).is_stream ≡ false → (x : Node) (at amount : ℕ) (d : Did (List ℕ)) → b.read text x at amount ≡ Ok d → (d.bytes ≡ None) × (d.size ≡ None)
+  pub read_keeps : (text : List ℕ) → (b.root text).is_stream ≡ false → (x : Node) (at amount writers : ℕ) (d : Did (List ℕ)) → b.read text x at amount writers ≡ Ok d → (d.bytes ≡ None) × (d.size ≡ None)
   pub guards : GuardsText b
-  -- what a kind takes that counts who reads may depend on what is in the node, and of no other kind does it
-  pub write_blind : b.counts ≡ false → (text : List ℕ) (at : ℕ) (bs : List ℕ) → IsBlindAt b text (writing at bs)
+  -- what a kind takes that is told who reads may depend on what is in the node, and of no other kind does it
+  pub write_blind : b.counts ≡ false → (text : List ℕ) (at : ℕ) (bs : List ℕ) (readers : ℕ) → IsBlindAt b text (writing at bs readers)
   pub set_size_blind : (text : List ℕ) (size : ℕ) → IsBlindAt b text (resizing size)
   -- options without words change nothing
   pub no_words : b.set_options [] ≡ Ok None
   pub options_root : (ws : List (List ℕ)) (new : List ℕ) → b.set_options ws ≡ Ok (Some new) → KeepsRoot b new
   pub options_plain : (ws : List (List ℕ)) (e : Errno) → b.set_options ws ≡ Err e → is_no_memory e ≡ false
-  pub read_plain : (at amount : ℕ) → IsPlain b (reading at amount)
-  pub write_plain : (at : ℕ) (bs : List ℕ) → IsPlain b (writing at bs)
+  pub read_plain : (at amount writers : ℕ) → IsPlain b (reading at amount writers)
+  pub write_plain : (at : ℕ) (bs : List ℕ) (readers : ℕ) → IsPlain b (writing at bs readers)
   pub set_size_plain : (size : ℕ) → IsPlain b (resizing size)

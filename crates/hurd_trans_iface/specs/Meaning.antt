@@ -11,7 +11,7 @@ use Rattle.hurd_trans_iface.specs.declared.header_edit.HeaderEdit.{HeaderEdit}
 use Rattle.hurd_trans_iface.specs.declared.new_node.NewNode.{NewNode}
 use Rattle.hurd_trans_iface.specs.declared.root.Root.{Root}
 use Rattle.hurd_trans_iface.specs.Nodes.{Body, Content, Listing, Node, NodeMap, Edit, body_of, edit_all, is_dir, with_header, with_size}
-use Rattle.hurd_trans_iface.specs.Answers.{entry_of, make_of, make_edits, link_of, link_edits, unlink_of, unlink_edits, rename_of, rename_edits, makes_edit, set_header_of, header_edits, edits_if}
+use Rattle.hurd_trans_iface.specs.Answers.{entry_of, make_of, make_edits, link_of, link_edits, unlink_of, unlink_edits, rename_of, rename_edits, set_header_of, header_edits, edits_if}
 use Rattle.hurd_trans_iface.specs.Behaviour.{Behaviour, Question, effect_on, told_of, edits_of}
 pub use Rattle.hurd_trans_iface.specs.Kinds.{ServerKind, Tmpfs, Hello, Null, Zero, Symlink, Firmlink, Union, Magic, Drip, Fifo, all_kinds, behaviour_of}
 
@@ -56,17 +56,13 @@ options_of k text = (behaviour_of k).options text
 abbrev pub targets_of : ServerKind → List ℕ → List (List ℕ)
 targets_of k text = (behaviour_of k).targets text
 
--- whether servers of a kind count who reads and who writes
+-- whether servers of a kind are told how many opens read and write
 abbrev pub counts_opens : ServerKind → Bool
 counts_opens k = (behaviour_of k).counts
 
 -- whether servers of a kind keep trees
 abbrev pub keeps_tree : ServerKind → Bool
 keeps_tree k = (behaviour_of k).tree
-
--- whether servers of a kind make such an edit of a header
-abbrev pub edits_header : ServerKind → HeaderEdit → Bool
-edits_header k e = makes_edit (keeps_tree k) (counts_opens k) e
 
 abbrev pub empty_body : Bool → Body
 empty_body true = Listing []
@@ -77,7 +73,7 @@ abbrev pub new_root : Behaviour → List ℕ → ℕ → ℕ → Mode → Node
 new_root b text owner group mode =
     let body = empty_body (is_dir (b.root text).kind) in
     record {
-      header = record { kind = (b.root text).kind; owner = owner; group = group; mode = mode; links = 1; size = b.size text body; readers = 0; writers = 0; parent = None; passive = [] };
+      header = record { kind = (b.root text).kind; owner = owner; group = group; mode = mode; links = 1; size = b.size text body; parent = None; passive = [] };
       body = body;
     }
 
@@ -136,7 +132,7 @@ rename_step dir name to new m =
 -- an edit of what a node's header says
 abbrev pub edit_header_step : Name → HeaderEdit → Meaning → Result (Unit {0}) Errno × Meaning
 edit_header_step n e m =
-    let answer = set_header_of (edits_header m.kind e) (fin.get m.nodes n) in (answer, edited (edits_if answer (header_edits n e)) m)
+    let answer = set_header_of (keeps_tree m.kind) (fin.get m.nodes n) in (answer, edited (edits_if answer (header_edits n e)) m)
 
 -- the server without a node; entries that name it stay
 abbrev pub forget_after : Meaning → Name → Meaning

@@ -42,8 +42,8 @@ still s = record {
   tree = false;
   counts = false;
   size = λ text b. s.size text;
-  read = λ text x at amount. unchanged (s.gives text at amount);
-  write = λ text x at bs. unchanged (s.takes bs);
+  read = λ text x at amount writers. unchanged (s.gives text at amount);
+  write = λ text x at bs readers. unchanged (s.takes bs);
   set_size = λ text x size. if nat_lt most_size size then Err EFBIG else unchanged s.cut;
   readable = λ text x at. s.readable text at;
 }

@@ -47,8 +47,8 @@ tmpfs = record {
   tree = true;
   counts = false;
   size = λ text b. bytes_in b;
-  read = λ text x at amount. read_bytes at amount x.body;
-  write = λ text x at bs. write_file x.header at bs;
+  read = λ text x at amount writers. read_bytes at amount x.body;
+  write = λ text x at bs readers. write_file x.header at bs;
   set_size = λ text x size. cut_file x.header size;
   readable = λ text x at. x.header.size - at;
 }

@@ -53,12 +53,19 @@ impl Server for Box<dyn Server> {
         node: NodeName,
         at: u64,
         amount: u64,
+        writers: u128,
     ) -> Result<Bytes, Errno> {
-        (**self).read(alloc, node, at, amount)
+        (**self).read(alloc, node, at, amount, writers)
     }
 
-    fn write(&mut self, node: NodeName, at: u64, bytes: &[u8]) -> Result<u64, Errno> {
-        (**self).write(node, at, bytes)
+    fn write(
+        &mut self,
+        node: NodeName,
+        at: u64,
+        bytes: &[u8],
+        readers: u128,
+    ) -> Result<u64, Errno> {
+        (**self).write(node, at, bytes, readers)
     }
 
     fn set_size(&mut self, node: NodeName, size: u64) -> Result<(), Errno> {

@@ -69,22 +69,29 @@ pub trait Server: Drop {
     fn names(&self, alloc: Global, dir: NodeName) -> Result<Names, Errno>
         ensures { Meets (names_of (body_of (meaning self.now).nodes dir)) result };
 
-    /// At most `amount` bytes of a file from `at` on; where there are none, no memory is taken.
+    /// At most `amount` bytes of a file from `at` on, where so many opens write it; where there are none, no memory is taken.
     ///
     /// Errors, in order: `EDIED` no such node, `EISDIR`, of a pipe `EWOULDBLOCK`, of a drip `EIO`, `ENOMEM`.
-    fn read(&mut self, alloc: Global, node: NodeName, at: u64, amount: u64) -> Result<Bytes, Errno>
-        ensures steps { Steps (meaning self.old) (step_of (reading at amount) node (meaning self.old)) result (meaning self.new) }
-        ensures nothing { (step_of (reading at amount) node (meaning self.old)).0 ≡ Ok [] → result ≡ Ok [] };
+    fn read(
+        &mut self,
+        alloc: Global,
+        node: NodeName,
+        at: u64,
+        amount: u64,
+        writers: u128,
+    ) -> Result<Bytes, Errno>
+        ensures steps { Steps (meaning self.old) (step_of (reading at amount writers) node (meaning self.old)) result (meaning self.new) }
+        ensures nothing { (step_of (reading at amount writers) node (meaning self.old)).0 ≡ Ok [] → result ≡ Ok [] };
 
-    /// Puts bytes into a file at `at`, and answers how many; a gap becomes zero bytes, no data grows nothing. Takes no memory where
+    /// Puts bytes into a file at `at`, where so many opens read it, and answers how many; a gap becomes zero bytes, no data grows nothing. Takes no memory where
     /// there is no data, where the file has the bytes that are written over, and in a stream.
     ///
     /// Errors, in order: `EDIED` no such node, `EBADF` a directory, `EFBIG` an end past 16,777,216, of a pipe `EPIPE` and `EWOULDBLOCK`, `ENOMEM`.
-    fn write(&mut self, node: NodeName, at: u64, bytes: &[u8]) -> Result<u64, Errno>
-        ensures steps { Steps (meaning self.old) (step_of (writing at bytes.now) node (meaning self.old)) result (meaning self.new) }
-        ensures within { Reaches (body_of (meaning self.old).nodes node) (at + length bytes.now) → result ≡ (step_of (writing at bytes.now) node (meaning self.old)).0 }
-        ensures nothing { bytes.now ≡ [] → result ≡ (step_of (writing at bytes.now) node (meaning self.old)).0 }
-        ensures stream { (root_of (meaning self.old).kind (meaning self.old).text).is_stream ≡ true → result ≡ (step_of (writing at bytes.now) node (meaning self.old)).0 };
+    fn write(&mut self, node: NodeName, at: u64, bytes: &[u8], readers: u128) -> Result<u64, Errno>
+        ensures steps { Steps (meaning self.old) (step_of (writing at bytes.now readers) node (meaning self.old)) result (meaning self.new) }
+        ensures within { Reaches (body_of (meaning self.old).nodes node) (at + length bytes.now) → result ≡ (step_of (writing at bytes.now readers) node (meaning self.old)).0 }
+        ensures nothing { bytes.now ≡ [] → result ≡ (step_of (writing at bytes.now readers) node (meaning self.old)).0 }
+        ensures stream { (root_of (meaning self.old).kind (meaning self.old).text).is_stream ≡ true → result ≡ (step_of (writing at bytes.now readers) node (meaning self.old)).0 };
 
     /// Cuts a file, or grows it by zero bytes. A cut takes no memory, nor does a stream.
     ///
@@ -155,10 +162,10 @@ pub trait Server: Drop {
     fn passive(&self, node: NodeName) -> Option<&Words>
         ensures { option_copied result ≡ passive_of (fin.get (meaning self.now).nodes node) };
 
-    /// Edits what the header of a node says: a server that keeps a tree stores owner, group and mode, and the words of passive translators; one that counts who reads and
-    /// who writes counts opens. Whether words may be stored with the node is for who asks. Takes no memory.
+    /// Edits what the header of a node says: a server that keeps a tree stores owner, group and mode, and the words of passive translators. Whether words may be stored
+    /// with the node is for who asks. Takes no memory.
     ///
-    /// Errors, in order: `EDIED` no such node, `EOPNOTSUPP` the server makes no such edit.
+    /// Errors, in order: `EDIED` no such node, `EOPNOTSUPP` the server keeps no tree.
     fn edit_header(&mut self, node: NodeName, edit: HeaderEdit) -> Result<(), Errno>
         ensures { (result, meaning self.new) ≡ edit_header_step node edit (meaning self.old) };
 
@@ -171,7 +178,7 @@ pub trait Server: Drop {
     fn nameless(&self) -> Option<&[NodeName]>
         ensures { IfSome (option_copied result) (λ names. AllListed (meaning self.now).nodes names) };
 
-    /// Whether it counts who reads and who writes each of its nodes. Takes no memory.
+    /// Whether `read` and `write` go by how many opens write and read the node: of any other server they are asked with none. Takes no memory.
     fn counts(&self) -> bool
         ensures { result ≡ counts_opens (meaning self.now).kind };
 

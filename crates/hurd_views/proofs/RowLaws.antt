@@ -5,6 +5,7 @@ use Rattle.hurd_machine.proofs.Common.{IsAmong, Name, World, boot_name, empty, l
 use Rattle.std.specs.FinMap as fin
 use Rattle.std.specs.Option.{option_map}
 use Rattle.std.proofs.lemmas.Bool.{or_cases, or_left, or_right}
+use Rattle.std.proofs.Math.Bool.{and-false}
 use Rattle.std.proofs.lemmas.List.{map-append, take_more}
 use Rattle.std.proofs.lemmas.Option.{get_or_from_slice_get, slice_get_cases}
 use Rattle.std.proofs.lemmas.List.Folds.{list_any-append}
@@ -14,7 +15,7 @@ use Rattle.hurd_sight.specs.Found.{is_found}
 use Rattle.hurd_sight.specs.Looks.{Looks, sees_with}
 use Rattle.hurd_sight.specs.declared.parts.SeenPart.TheVariants as seen
 use Rattle.hurd_sight.proofs.PartLaws.{parts_are_seen}
-use Rattle.hurd_machine.specs.World.{nodes_of}
+use Rattle.hurd_machine.specs.World.{counts_at, nodes_of}
 use Rattle.hurd_machine.proofs.Views.{text_known}
 use Rattle.hurd_sight.specs.Parts.{is_in, maybe_named, named, named_more}
 use Rattle.hurd_sight.proofs.NameLaws.{named-append, named_are}
@@ -182,7 +183,7 @@ module _ {S : ℕ → Bool} {w : World} {v : Sight} (looks : Looks S w v) (n : N
           absurd (true≢false (sym k ∙ ap (λ (b : Bool). b || is_in n v.rights.controlled) known ∙ controlled))
 
   pub uncovered : is_found n v.found ≡ false → is_in n v.rights.opens ≡ false → is_in n v.known ≡ false → is_in n v.rights.controlled ≡ false → row_of w v n ≡ no_row
-  uncovered found opened known controlled = rw (text_unknown known controlled, found, opened, known, controlled, send_known known, and_none (not (same_name n boot_name)) (is_some (fin.get w.servers n))) refl
+  uncovered found opened known controlled = rw (text_unknown known controlled, found, opened, known, controlled, send_known known, and_none (not (same_name n boot_name)) (is_some (fin.get w.servers n)), and-false (counts_at w n)) refl
 
 -- under each name what is seen of it is kept
 pub row_told : {S : ℕ → Bool} {w : World} {v : Sight} → Looks S w v → (n : Name) → row_at (rows_for w v (names_seen v)) n ≡ row_of w v n

@@ -6,7 +6,7 @@ use Rattle.std.specs.Option.{option_map}
 use Rattle.std.proofs.lemmas.Bool.{or_cases, or_left, or_right}
 use Rattle.std.proofs.lemmas.Slice.Eq.{bytes_eq-Decides}
 use Rattle.std.specs.Cmp.{unsigned_Decides}
-use Rattle.hurd_machine.proofs.Common.{ABody, AText, ATask, AUsers, AnAttr, AnEmpty, AnOpen, AnOptions, AreDistinct, AttrOf, Attrs, Body, BodyOf, Content, EmptyOf, HasDistinctNames, Header, IdSets, IsAmong, Listing, Name, Node, OpenOf, OptionsOf, Part, SameView, Sees, ServerInfo, Sound, Task, TaskId, TaskOf, TextOf, UsersOf, World, bare, body_at, bytes_eq, entry_in, faced, header_at, holders, is_empty_dir, known_text, open_at, options_of, part, server_at, site_at, task_at, users, words_at, words_in}
+use Rattle.hurd_machine.proofs.Common.{ABody, AText, ATask, AUsers, AnAttr, AnEmpty, AnEnds, AnOpen, AnOptions, AreDistinct, AttrOf, Attrs, Body, BodyOf, Content, EmptyOf, EndsOf, HasDistinctNames, Header, IdSets, IsAmong, Listing, Name, Node, OpenOf, OptionsOf, Part, SameView, Sees, ServerInfo, Sound, Task, TaskId, TaskOf, TextOf, UsersOf, World, bare, body_at, bytes_eq, ends_at, entry_in, faced, header_at, holders, is_empty_dir, known_text, open_at, options_of, part, server_at, site_at, task_at, users, words_at, words_in}
 use Rattle.hurd_machine.proofs.Faces.{face_in, face_reads, root_told, text_in, whole}
 use Rattle.hurd_machine.proofs.Views.{text_known}
 use Rattle.hurd_nodes.proofs.Sites.{home_by, active_by, site_by}
@@ -31,6 +31,7 @@ use Rattle.hurd_views.specs.declared.rows.Row.{Row}
 use Rattle.hurd_views.specs.declared.rows.ServerRow.{ServerRow}
 use Rattle.hurd_views.specs.declared.rows.TextRow.{TextRow}
 use Rattle.hurd_views.specs.declared.view.View.{View}
+use Rattle.hurd_ports.specs.declared.table.Ends.{Ends}
 use Rattle.hurd_sight.proofs.PartLaws.{parts_are_seen}
 use Rattle.hurd_views.proofs.RowLaws.{row_told}
 
@@ -63,7 +64,7 @@ test_same false false to from = refl
 -- a header is told by its bare attributes and its words
 
 abbrev with_words : Attrs → List (List ℕ) → Header
-with_words a ws = record { kind = a.kind; owner = a.owner; group = a.group; mode = a.mode; links = a.links; size = a.size; readers = a.readers; writers = a.writers; parent = a.parent; passive = ws }
+with_words a ws = record { kind = a.kind; owner = a.owner; group = a.group; mode = a.mode; links = a.links; size = a.size; parent = a.parent; passive = ws }
 
 abbrev headers : Option Attrs → List (List ℕ) → Option Header
 headers None ws = None
@@ -190,10 +191,11 @@ rows_faced : (o p : Option ServerInfo) → face_in p ≡ face_in o → option_ma
 rows_faced = face_reads (option_map server_row) (λ i. ap Some (row_faced i))
 
 -- a row by its fields
-pub row_from : {a a' : Option NodeRow} {b b' : Option (Option Bool)} {c c' : Option (Option BodyRow)} {d d' : Option OpenRow} {e e' : Option (Option ServerRow)} {f f' : Option (Option TextRow)} {g g' : Option ℕ}
-    → a ≡ a' → b ≡ b' → c ≡ c' → d ≡ d' → e ≡ e' → f ≡ f' → g ≡ g'
-    → ◌≡◌ {A = Row} (record { attributes = a; empty = b; body = c; opened = d; server = e; text = f; users = g }) (record { attributes = a'; empty = b'; body = c'; opened = d'; server = e'; text = f'; users = g' })
-row_from h i j k l m n = rw (h, i, j, k, l, m, n) refl
+pub row_from : {a a' : Option NodeRow} {b b' : Option (Option Bool)} {c c' : Option (Option BodyRow)} {m m' : Option (Option Ends)} {d d' : Option OpenRow} {e e' : Option (Option ServerRow)}
+    {f f' : Option (Option TextRow)} {g g' : Option ℕ} → a ≡ a' → b ≡ b' → c ≡ c' → m ≡ m' → d ≡ d' → e ≡ e' → f ≡ f' → g ≡ g'
+    → ◌≡◌ {A = Row} (record { attributes = a; empty = b; body = c; ends = m; opened = d; server = e; text = f; users = g })
+    (record { attributes = a'; empty = b'; body = c'; ends = m'; opened = d'; server = e'; text = f'; users = g' })
+row_from h i j k l m n o = rw (h, i, j, k, l, m, n, o) refl
 
 -- tasks of a list
 
@@ -249,6 +251,7 @@ module _ (tasks : List TaskId) (v w : World) (a b : View) (sound_v : Sound v) (s
     test (seen.Attributes n) = told_test _ _ _ _ (ap (λ (r : Row). r.attributes) (row n))
     test (seen.Empty n) = told_test _ _ _ _ (ap (λ (r : Row). r.empty) (row n))
     test (seen.Body n) = told_test _ _ _ _ (ap (λ (r : Row). r.body) (row n))
+    test (seen.Ends n) = told_test _ _ _ _ (ap (λ (r : Row). r.ends) (row n))
     test (seen.Open n) = told_test _ _ _ _ (ap (λ (r : Row). r.opened) (row n))
     test (seen.Options n) = told_test _ _ _ _ (ap (λ (r : Row). r.server) (row n))
     test (seen.Text n) = told_test _ _ _ _ (ap (λ (r : Row). r.text) (row n))
@@ -278,6 +281,7 @@ module _ (tasks : List TaskId) (v w : World) (a b : View) (sound_v : Sound v) (s
     value (seen.Attributes n) on = attr_same n (told_value _ _ _ _ (ap (λ (r : Row). r.attributes) (row n)) on)
     value (seen.Empty n) on = ap AnEmpty (sym (told_value _ _ _ _ (ap (λ (r : Row). r.empty) (row n)) on))
     value (seen.Body n) on = ap ABody (sym (body_same n (told_value _ _ _ _ (ap (λ (r : Row). r.body) (row n)) on)))
+    value (seen.Ends n) on = ap AnEnds (sym (told_value _ _ _ _ (ap (λ (r : Row). r.ends) (row n)) on))
     value (seen.Open n) on = ap (λ (r : OpenRow). AnOpen r.opened r.holders) (sym (told_value _ _ _ _ (ap (λ (r : Row). r.opened) (row n)) on))
     value (seen.Options n) on = ap AnOptions (sym (faces_told _ _ (told_value _ _ _ _ (ap (λ (r : Row). r.server) (row n)) on)))
     value (seen.Text n) on = ap AText (sym (texts_told _ _ (told_value _ _ _ _ (ap (λ (r : Row). r.text) (row n)) on)))
@@ -288,6 +292,7 @@ module _ (tasks : List TaskId) (v w : World) (a b : View) (sound_v : Sound v) (s
     all_seen (AttrOf n) = sees_same (seen.Attributes n)
     all_seen (EmptyOf n) = sees_same (seen.Empty n)
     all_seen (BodyOf n) = sees_same (seen.Body n)
+    all_seen (EndsOf n) = sees_same (seen.Ends n)
     all_seen (OpenOf o) = sees_same (seen.Open o)
     all_seen (OptionsOf s) = sees_same (seen.Options s)
     all_seen (TextOf s) = sees_same (seen.Text s)
@@ -298,6 +303,7 @@ module _ (tasks : List TaskId) (v w : World) (a b : View) (sound_v : Sound v) (s
     all_same (AttrOf n) s = value (seen.Attributes n) ((says_v (seen.Attributes n)).1 s)
     all_same (EmptyOf n) s = value (seen.Empty n) ((says_v (seen.Empty n)).1 s)
     all_same (BodyOf n) s = value (seen.Body n) ((says_v (seen.Body n)).1 s)
+    all_same (EndsOf n) s = value (seen.Ends n) ((says_v (seen.Ends n)).1 s)
     all_same (OpenOf o) s = value (seen.Open o) ((says_v (seen.Open o)).1 s)
     all_same (OptionsOf s) k = value (seen.Options s) ((says_v (seen.Options s)).1 k)
     all_same (TextOf s) k = value (seen.Text s) ((says_v (seen.Text s)).1 k)
@@ -338,6 +344,7 @@ module _ (tasks : List TaskId) (v w : World) (a b : View) (sound_v : Sound v) (s
         (told_same _ _ _ _ (both (seen.Attributes n)) (λ on. node_same n (equal (seen.Attributes n) on)))
         (told_same _ _ _ _ (both (seen.Empty n)) (λ on. let e : AnEmpty (option_map is_empty_dir (body_at w n)) ≡ AnEmpty (option_map is_empty_dir (body_at v n)) = equal (seen.Empty n) on in cc))
         (told_same _ _ _ _ (both (seen.Body n)) (λ on. ap (option_map body_row) (let e : ABody (body_at w n) ≡ ABody (body_at v n) = equal (seen.Body n) on in cc)))
+        (told_same _ _ _ _ (both (seen.Ends n)) (λ on. let e : AnEnds (ends_at w n) ≡ AnEnds (ends_at v n) = equal (seen.Ends n) on in cc))
         (told_same _ _ _ _ (both (seen.Open n)) (λ on. let e : AnOpen (open_at w n) (holders w n) ≡ AnOpen (open_at v n) (holders v n) = equal (seen.Open n) on in cc))
         (told_same _ _ _ _ (both (seen.Options n)) (λ on. rows_faced (server_at w n) (server_at v n) (face_same n on)))
         (told_same _ _ _ _ (both (seen.Text n)) (λ on. ap (option_map text_row) (server_same n on)))

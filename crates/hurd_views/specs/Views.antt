@@ -10,7 +10,7 @@ use Rattle.hurd_trans_iface.specs.Nodes.{Body, Content, Listing, is_empty_dir}
 use Rattle.hurd_trans_iface.specs.Answers.{entry_of}
 use Rattle.hurd_trans_iface.specs.Meaning.{options_of}
 use Rattle.hurd_nodes.specs.Shown.{ServerInfo}
-use Rattle.hurd_machine.specs.World.{World, nodes_of, active_at, body_at, header_at, home_at, open_at, server_at, task_at, words_at}
+use Rattle.hurd_machine.specs.World.{World, nodes_of, active_at, body_at, ends_at, header_at, home_at, open_at, server_at, task_at, words_at}
 use Rattle.hurd_machine.specs.Sight.{SameView, bare, holders, known_text, users}
 use Rattle.hurd_machine.specs.Sound.{Sound}
 use Rattle.hurd_sight.specs.Looks.{Gathered, Looks, sees_with}
@@ -46,7 +46,7 @@ abbrev pub HaveSamePlace : Attrs → Attrs → Type 0
 HaveSamePlace a b = (a.links ≡ b.links) × (a.size ≡ b.size) × (a.empty ≡ b.empty) × (a.parent ≡ b.parent)
 
 abbrev pub HaveSameMarks : Attrs → Attrs → Type 0
-HaveSameMarks a b = (a.readers ≡ b.readers) × (a.writers ≡ b.writers) × (a.passive ≡ b.passive) × (a.active ≡ b.active)
+HaveSameMarks a b = (a.passive ≡ b.passive) × (a.active ≡ b.active)
 
 -- a node's attributes, as if a directory had entries; its words, its server, and the one that is active on it
 abbrev pub node_row : World → Name → NodeRow
@@ -86,6 +86,7 @@ row_of w v n = record {
   attributes = told_if (sees_with (nodes_of w) v (seen.Attributes n)) (node_row w n);
   empty = told_if (sees_with (nodes_of w) v (seen.Empty n)) (option_map is_empty_dir (body_at w n));
   body = told_if (sees_with (nodes_of w) v (seen.Body n)) (option_map body_row (body_at w n));
+  ends = told_if (sees_with (nodes_of w) v (seen.Ends n)) (ends_at w n);
   opened = told_if (sees_with (nodes_of w) v (seen.Open n)) (record { opened = open_at w n; holders = holders w n });
   server = told_if (sees_with (nodes_of w) v (seen.Options n)) (option_map server_row (server_at w n));
   text = told_if (sees_with (nodes_of w) v (seen.Text n)) (option_map text_row (server_at w n));
@@ -94,7 +95,7 @@ row_of w v n = record {
 
 -- nothing is seen
 abbrev pub no_row : Row
-no_row = record { attributes = None; empty = None; body = None; opened = None; server = None; text = None; users = None }
+no_row = record { attributes = None; empty = None; body = None; ends = None; opened = None; server = None; text = None; users = None }
 
 -- what there is under a name; of a name that isn't there, nothing is seen
 abbrev pub row_at : List (Name × Row) → Name → Row

@@ -3,7 +3,7 @@ ghost use Rattle.std.specs.Prelude.{◌≡◌, ◌↔◌, IfOk, IsTrue};
 ghost use Rattle.hurd_views.specs.Views.{HaveSameAccess, HaveSameMarks, HaveSamePlace, no_row};
 
 use hurd_creds::{Attrs, Bytes, Ids, Name, NodeName, Same, ServerName, all_same};
-use hurd_ports::Opened;
+use hurd_ports::{Ends, Opened};
 use hurd_trans_iface::Words;
 use std::alloc::{AllocError, Global};
 use std::marker::Model;
@@ -101,6 +101,8 @@ pub struct Row {
     /// Whether a directory has no entries.
     pub empty: Option<Option<bool>>,
     pub body: Option<Option<BodyRow>>,
+    /// How many opens read a node, and how many write it, where its server is told.
+    pub ends: Option<Option<Ends>>,
     pub opened: Option<OpenRow>,
     pub server: Option<Option<ServerRow>>,
     pub text: Option<Option<TextRow>>,
@@ -214,14 +216,11 @@ fn same_place(attrs: &Attrs, other: &Attrs) -> bool
         && attrs.parent == other.parent
 }
 
-/// Whether these say the same of opens and translators.
+/// Whether these say the same of translators.
 fn same_marks(attrs: &Attrs, other: &Attrs) -> bool
     ensures { IsTrue result ↔ HaveSameMarks attrs.now other.now }
 {
-    attrs.readers == other.readers
-        && attrs.writers == other.writers
-        && attrs.passive == other.passive
-        && attrs.active == other.active
+    attrs.passive == other.passive && attrs.active == other.active
 }
 
 /// Whether these are the same name, if they are there.
@@ -305,6 +304,7 @@ impl Row {
         self.attributes.same(&other.attributes)
             && self.empty == other.empty
             && self.body.same(&other.body)
+            && self.ends == other.ends
             && self.opened == other.opened
             && self.server.same(&other.server)
             && self.text.same(&other.text)
@@ -320,6 +320,7 @@ impl Row {
         self.attributes.is_none()
             && self.empty.is_none()
             && self.body.is_none()
+            && self.ends.is_none()
             && self.opened.is_none()
             && self.server.is_none()
             && self.text.is_none()

@@ -16,6 +16,7 @@ use crate::rows::{
 use hurd_core::Core;
 use hurd_creds::{Attrs, Bytes, Errno, Name, NodeName, ServerName};
 use hurd_nodes::Nodes;
+use hurd_ports::Ends;
 use hurd_sight::{SeenPart, Sight};
 use hurd_trans_iface::{Names, Server, Words};
 use std::alloc::{AllocError, Global};
@@ -33,6 +34,7 @@ pub(crate) fn row_of<S: Server>(
         attributes: attributes_of(alloc, core, sight, name)?,
         empty: empty_of(core, sight, name),
         body: body_of(alloc, core, sight, name)?,
+        ends: ends_of(core, sight, name),
         opened: opened_of(core, sight, name),
         server: server_of(alloc, core, sight, name)?,
         text: text_of(alloc, core, sight, name)?,
@@ -186,6 +188,16 @@ fn add_entry<S: Server>(
         rows.push(EntryRow { name, node })?;
     }
     Ok(())
+}
+
+/// How many opens read a node, and how many write it, if that is seen.
+fn ends_of<S: Server>(core: &Core<S>, sight: &Sight, name: Name) -> Option<Option<Ends>>
+    ensures { result ≡ (row_of (world_of S.meaning core.now) sight.now name).ends }
+{
+    if !sight.sees(core.nodes(), SeenPart::Ends(name)) {
+        return None;
+    }
+    Some(core.ends(name))
 }
 
 /// What is seen of an open.

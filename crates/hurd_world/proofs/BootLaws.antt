@@ -46,23 +46,23 @@ more t x = with_port (new_right t boot_name x.ids [] x) (named 1 x)
 
 -- one port more
 added_once : (h : PortState) (t : ℕ) (x : Task) → slice_get h.tasks t ≡ Some x → has_room 1 x ≡ true
-    → with_boot_port t h ≡ record { opens = fin.insert h.opens (fresh t x) (new_open closed_open); tasks = slice_set h.tasks t (more t x) }
+    → with_boot_port t h ≡ record { opens = fin.insert h.opens (fresh t x) (new_open boot_name closed_open); tasks = slice_set h.tasks t (more t x) }
 added_once h t x at room =
-    rw at (ap (λ (o : Option Task). (insert_at h t boot_name x.ids [] closed_open o).1) at ∙ rw room (ap (λ (ts : List Task). let g : PortState = record { opens = fin.insert h.opens (fresh t x) (new_open closed_open); tasks = ts } in g) (edit-edit t (with_port (new_right t boot_name x.ids [] x)) (named 1) h.tasks x at)))
+    rw at (ap (λ (o : Option Task). (insert_at h t boot_name x.ids [] closed_open o).1) at ∙ rw room (ap (λ (ts : List Task). let g : PortState = record { opens = fin.insert h.opens (fresh t x) (new_open boot_name closed_open); tasks = ts } in g) (edit-edit t (with_port (new_right t boot_name x.ids [] x)) (named 1) h.tasks x at)))
 
 -- both ports of a task that had none
 added_twice : (h : PortState) (t : ℕ) (ids : IdSets) → slice_get h.tasks t ≡ Some (new_task 1 ids)
-    → with_boot_port t (with_boot_port t h) ≡ record { opens = fin.insert (fin.insert h.opens (name_of t 0) (new_open closed_open)) (name_of t 1) (new_open closed_open); tasks = slice_set h.tasks t (boot_task t ids) }
+    → with_boot_port t (with_boot_port t h) ≡ record { opens = fin.insert (fin.insert h.opens (name_of t 0) (new_open boot_name closed_open)) (name_of t 1) (new_open boot_name closed_open); tasks = slice_set h.tasks t (boot_task t ids) }
 added_twice h t ids at =
     ap (with_boot_port t) (added_once h t (new_task 1 ids) at refl)
     ∙ added_once half t one (set-here h.tasks t (new_task 1 ids) one at) refl
-    ∙ ap (λ (ts : List Task). let g : PortState = record { opens = fin.insert half.opens (name_of t 1) (new_open closed_open); tasks = ts } in g) (set-set h.tasks t one (boot_task t ids))
+    ∙ ap (λ (ts : List Task). let g : PortState = record { opens = fin.insert half.opens (name_of t 1) (new_open boot_name closed_open); tasks = ts } in g) (set-set h.tasks t one (boot_task t ids))
   where
     one : Task
     one = more t (new_task 1 ids)
 
     half : PortState
-    half = record { opens = fin.insert h.opens (name_of t 0) (new_open closed_open); tasks = slice_set h.tasks t one }
+    half = record { opens = fin.insert h.opens (name_of t 0) (new_open boot_name closed_open); tasks = slice_set h.tasks t one }
 
 -- the tables after t tasks have their ports
 pub record Begun (tasks : List IdSets) (t : ℕ) (h : PortState) : Type 0 where
@@ -86,7 +86,7 @@ module _ (tasks : List IdSets) (t : ℕ) (h : PortState) (lt : t < length tasks)
   begun_next = rw (add-one, added_twice h t next empty_seat) (record {
     seats = ap (λ (ts : List Task). slice_set ts t (boot_task t next)) begun.seats ∙ rw (zero-add t) at (next_begun 0 t tasks next (next_ids tasks t lt).1);
     opens =
-        let step : boot_opens (t + 1) (drop (suc t) tasks) (fin.insert (fin.insert h.opens (name_of t 0) (new_open closed_open)) (name_of t 1) (new_open closed_open)) ≡ boot_opens 0 tasks fin.empty = rw (next_ids tasks t lt).2 at begun.opens in
+        let step : boot_opens (t + 1) (drop (suc t) tasks) (fin.insert (fin.insert h.opens (name_of t 0) (new_open boot_name closed_open)) (name_of t 1) (new_open boot_name closed_open)) ≡ boot_opens 0 tasks fin.empty = rw (next_ids tasks t lt).2 at begun.opens in
         rw add-one at step;
   })
 

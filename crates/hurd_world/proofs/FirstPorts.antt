@@ -83,9 +83,9 @@ boot_number t ids p h = elim h [
 -- opens
 
 abbrev pub closed : Opened
-closed = new_open closed_open
+closed = new_open boot_name closed_open
 
--- what was open without modes stays so
+-- what was open so stays so
 opens_kept : (k : ℕ) (tasks : List IdSets) (m : OpenMap) (q : Name) → fin.get m q ≡ Some closed → fin.get (boot_opens k tasks m) q ≡ Some closed
 opens_kept k [] m q h = h
 opens_kept k (ids ∷ tasks) m q h =

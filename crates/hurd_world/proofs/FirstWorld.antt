@@ -1,9 +1,9 @@
 -- The first world is sound, whatever the kind of the boot server.
-use Rattle.std.proofs.Common.{◌≡◌, inl, inr, ℕ, ◌+◌, ◌<◌, Bool, true, false, true≢false, if◌then◌else◌, List, [], length, refl, ap, sym, subst, zero-add, ◌∙◌, arith}
+use Rattle.std.proofs.Common.{◌≡◌, inl, inr, ℕ, ◌+◌, ◌<◌, Bool, true, false, true≢false, if◌then◌else◌, List, length, refl, ap, sym, subst, zero-add, ◌∙◌, arith}
 use Rattle.std.specs.Prelude.{Option, Some, None, cond}
 use Rattle.std.specs.Option.{option_map}
 use Rattle.std.specs.FinMap as fin
-use Rattle.hurd_machine.proofs.Common.{AreFilled, AreSeated, AreTables, AtRest, Below, Control, Counted, Dir, Hangs, HasDistinctNames, HasOpens, Header, IdSets, Io, IsAmong, IsFilled, IsGivenRight, IsShaped, Kind, Linked, Meaning, Name, Node, NodeState, Opened, READ, Right, ServerInfo, Site, Sound, Start, Task, WRITE, World, active_in, asks, body_of, boot_mode, boot_name, booted, empty_body, has_mode, header_of, home_in, info_in, is_dir, is_plain, is_tree, lists, lists_at, name_of, new_root, new_site, open_at, rights_of, server_of, state_of, task_at, times_in, times_listed, tree_by, ways_of}
+use Rattle.hurd_machine.proofs.Common.{AreFilled, AreSeated, AreTables, AtRest, Below, Control, Dir, Hangs, HasDistinctNames, Header, IdSets, Io, IsAmong, IsFilled, IsGivenRight, IsShaped, Kind, Linked, Meaning, Name, Node, NodeState, Opened, Right, ServerInfo, Site, Sound, Start, Task, WRITE, World, active_in, asks, body_of, boot_mode, boot_name, booted, empty_body, header_of, home_in, info_in, is_dir, is_plain, is_tree, lists, lists_at, name_of, new_root, new_site, rights_of, server_of, state_of, task_at, times_in, times_listed, tree_by, ways_of}
 use Rattle.hurd_nodes.proofs.Sites.{site-of, seat-site, home_by}
 use Rattle.hurd_creds.proofs.NameLaws.{get_here, same_name-itself}
 use Rattle.hurd_creds.proofs.MapLaws.{get-map_values}
@@ -17,8 +17,8 @@ use Rattle.hurd_ports.specs.declared.parents.Parent.{Parent}
 use Rattle.hurd_ports.specs.Tables.{nodes_of as nodes_named}
 use Rattle.hurd_machine.specs.Sound.{AreGiven, AreHoused, IsTree, AreOfKind}
 use Rattle.hurd_machine.proofs.Stays.{root_is_root, stays_root, lives_boot}
-use Rattle.hurd_machine.proofs.Sums.{total_none}
-use Rattle.hurd_world.specs.Boot.{FirstCounted, closed_open, first_world}
+use Rattle.hurd_creds.proofs.Sums.{total_none}
+use Rattle.hurd_world.specs.Boot.{first_world}
 use Rattle.hurd_world.proofs.FirstPorts.{IsFirst, OfTask, boot_seat, boot_right, boot_number, boot_open, boot_settled, closed, only, opens_there}
 
 -- what a function of what is there comes from
@@ -170,7 +170,7 @@ module _ (kind : ServerKind) (text : List ℕ) where
       let e = node_only n x is in
       let served : server_of state n ≡ Some info = ap (server_of state) e.0 ∙ ap (info_in state.servers) root_home ∙ root_server in
       let same : info ≡ i = cc in
-      subst (λ (j : ServerInfo). IsFilled j x) same (rw e.1 (refl, begun_holds kind text, begun_has kind text _ _ _))
+      subst (λ (j : ServerInfo). IsFilled j x) same (rw e.1 (refl, begun_holds kind text, begun_has kind text 0 0 boot_mode))
 
   -- with the ports of tasks
   module _ (tasks : List IdSets) where
@@ -210,7 +210,7 @@ module _ (kind : ServerKind) (text : List ℕ) where
     given : AreGiven w
     given = record {
       nodes = λ n x is. named_root n (node_only n x is).0;
-      opens = λ q x is. let one = boot_open tasks q x is in named_open (0 + one.0) q one.2;
+      opens = λ q x is. let one = boot_open tasks q x is in (named_open (0 + one.0) q one.2, named_root x.node (ap (λ (y : Opened). y.node) one.3));
       servers = λ s i is. named_root s (server_only s i is).0;
       rights = λ t x r at has. right_given t r (right_is t x r at has).0;
       entries = λ d n is. absurd (no_entry d n is);
@@ -221,8 +221,7 @@ module _ (kind : ServerKind) (text : List ℕ) where
     tables : AreTables w
     tables = record {
       numbers = λ t x p at has. let seat = boot_seat 0 tasks t x at in rw seat.1 (boot_number (0 + t) seat.0 p (rw seat.1 at has));
-      opened = λ t x r at has. let is = right_is t x (Io r) at has in (closed, opens_there 0 tasks fin.empty t r.open_name is.1 (rw (← zero-add t) at is.0.open_name));
-      shared = λ t q x y r p at has there holds same. (right_is t x (Io r) at has).0.node ∙ sym (right_is q y (Io p) there holds).0.node;
+      opened = λ t x r at has. let is = right_is t x (Io r) at has in (closed, opens_there 0 tasks fin.empty t r.open_name is.1 (rw (← zero-add t) at is.0.open_name), sym is.0.node);
       written = λ t x r o at has is asked. absurd (true≢false (sym asked ∙ ap (λ (y : Opened). asks y.modes WRITE) (boot_open tasks r.open_name o is).3));
       held = λ t x r n at has named. inl (right_root t r n (right_is t x r at has).0 named);
     }
@@ -237,24 +236,6 @@ module _ (kind : ServerKind) (text : List ℕ) where
 
     sound : Sound w
     sound = record { coherent = record { given = given; housing = housed; seating = seated; tree = tree; kinds = kinds; tables = tables }; linked = linked; filled = sized; settled = rest }
-
-    -- no open reads or writes
-    no_mode : (mode : ℕ) → asks closed_open mode ≡ false → (n : Name) → HasOpens w n mode 0
-    no_mode mode closed n = record { names = []; apart = tt; each = λ q i. absurd i; all = λ q p. none q (open_at w q) refl p.1; count = refl }
-      where
-        none : (q : Name) (o : Option Opened) → open_at w q ≡ o → has_mode mode o ≡ true → IsAmong q []
-        none q None e is = absurd (true≢false (sym is))
-        none q (Some z) e is = absurd (true≢false (sym is ∙ ap (λ (y : Opened). asks y.modes mode) (boot_open tasks q z e).3 ∙ closed))
-
-    counted : Counted w
-    counted n h counts is =
-        let root_is = (header_only n h is).1 in (
-          subst (HasOpens w n READ) (ap (λ (j : Header). j.readers) (sym root_is)) (no_mode READ refl n),
-          subst (HasOpens w n WRITE) (ap (λ (j : Header). j.writers) (sym root_is)) (no_mode WRITE refl n),
-        )
-
-pub first_counted : FirstCounted
-first_counted m tasks b = let new = begun-new b.0 m b.1 in rw new.2 (counted new.0 new.1 tasks)
 
 pub first_sound : (m : Meaning) (tasks : List IdSets) → Begins m → Sound (first_world m tasks)
 first_sound m tasks b = let new = begun-new b.0 m b.1 in rw new.2 (sound new.0 new.1 tasks)

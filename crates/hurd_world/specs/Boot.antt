@@ -10,13 +10,12 @@ use Rattle.hurd_creds.specs.Limits.{most_tasks}
 use Rattle.hurd_trans_iface.specs.Nodes.{is_dir}
 use Rattle.hurd_trans_iface.specs.declared.root.Crossing.{Crossing}
 use Rattle.hurd_trans_iface.specs.declared.root.Crossing.TheVariants.{Firm, Union}
-use Rattle.hurd_trans_iface.specs.Meaning.{Meaning, Begins, root_of}
+use Rattle.hurd_trans_iface.specs.Meaning.{Meaning, root_of}
 use Rattle.hurd_nodes.specs.Shown.{state_of, booted, boot_name}
 use Rattle.hurd_ports.specs.declared.table.Right.TheVariants.{Io}
 use Rattle.hurd_ports.specs.Tables.{Task, OpenMap, PortState}
 use Rattle.hurd_ports.specs.Steps.{new_open}
 use Rattle.hurd_machine.specs.World.{World, world_from}
-use Rattle.hurd_machine.specs.Counted.{Counted}
 
 -- whether tasks of these ids begin together: EINVAL for more of them than that
 abbrev pub few_of : List IdSets → Result (Unit {0}) Errno
@@ -59,7 +58,7 @@ boot_tasks t (ids ∷ more) = boot_task t ids ∷ boot_tasks (t + 1) more
 abbrev pub boot_opens : ℕ → List IdSets → OpenMap → OpenMap
 boot_opens t [] m = m
 boot_opens t (ids ∷ more) m =
-    boot_opens (t + 1) more (fin.insert (fin.insert m (name_of t 0) (new_open closed_open)) (name_of t 1) (new_open closed_open))
+    boot_opens (t + 1) more (fin.insert (fin.insert m (name_of t 0) (new_open boot_name closed_open)) (name_of t 1) (new_open boot_name closed_open))
 
 -- the tables of tasks of these ids
 abbrev pub boot_ports : List IdSets → PortState
@@ -68,7 +67,3 @@ boot_ports tasks = record { opens = boot_opens 0 tasks fin.empty; tasks = boot_t
 -- the world that a boot server of this meaning and tasks of these ids begin
 abbrev pub first_world : Meaning → List IdSets → World
 first_world m tasks = world_from (state_of (booted m)) (boot_ports tasks)
-
--- in a first world readers and writers are as many as the opens that read and write: none
-abbrev pub FirstCounted : Type 0
-FirstCounted = (m : Meaning) (tasks : List IdSets) → Begins m → Counted (first_world m tasks)

@@ -1,7 +1,7 @@
 //! The first ports of tasks.
 ghost use Rattle.std.specs.Prelude.{◌≡◌, ◌⊎◌, IfOk, IfErr, IsOk, Ok, Err};
 ghost use Rattle.hurd_ports.specs.Tables.{room_of};
-ghost use Rattle.hurd_world.specs.Boot.{FirstCounted, boot_ports, few_of, is_aimed};
+ghost use Rattle.hurd_world.specs.Boot.{boot_ports, few_of, is_aimed};
 ghost use Rattle.hurd_world.specs.BootPort.{with_boot_port};
 
 use hurd_creds::{Errno, Ids, OpenFlags, TaskId};
@@ -51,8 +51,3 @@ fn add_boot_port(alloc: Global, ports: &mut Ports, task: TaskId) -> Result<(), E
     )?;
     Ok(())
 }
-
-/// A first world counts as many readers and writers of each node as there are opens of it that read and write: none.
-pub fn first_counted()
-    ensures { FirstCounted }
-{}

@@ -7,6 +7,7 @@ use Rattle.hurd_creds.specs.Limits.{most_read}
 use Rattle.hurd_machine.specs.declared.call.Reply.TheVariants.{Data}
 use Rattle.hurd_nodes.specs.Needs.{FreeRead}
 use Rattle.hurd_core.specs.Core.{world_of}
+use Rattle.hurd_machine.specs.World.{writers_at}
 use Rattle.hurd_io.specs.Io.{read_asks, reads}
 use Rattle.hurd_io.proofs.RowLaws.{io-refused, io-refused-free, io-short, io-short-free, io-done}
 use Rattle.hurd_io.proofs.io.io_read.Goals as goal
@@ -16,14 +17,14 @@ returns-in_err-from-clause-planned g c =
     let w = world_of g.S.Server.meaning c.args.core.now in
     let asked = rw (to_z-of_z w64 c.args.offset c.ranges.offset) at c.in_err-from.ensures in
     let p = err_from_is_err_and c.from_residual.result c.from_residual.ensures.1 in
-    rw (p.1, p.2) (io-refused w (read_asks w c.args.task.0 c.args.port c.args.offset) (reads c.args.amount) (λ bs. Data bs) length (λ x. refl) _ (sym asked))
+    rw (p.1, p.2) (io-refused w (read_asks w c.args.task.0 c.args.port c.args.offset) (reads c.args.amount w) (λ bs. Data bs) length (λ x. refl) _ (sym asked))
 
 pub returns-in_err-from-clause-free : goal.returns-in_err-from-clause-free
 returns-in_err-from-clause-free g c free =
     let w = world_of g.S.Server.meaning c.args.core.now in
     let asked = rw (to_z-of_z w64 c.args.offset c.ranges.offset) at c.in_err-from.ensures in
     let p = err_from_is_err_and c.from_residual.result c.from_residual.ensures.1 in
-    rw (p.1, p.2) (io-refused-free w (read_asks w c.args.task.0 c.args.port c.args.offset) (reads c.args.amount) (λ bs. Data bs) length (λ x. refl) _ (sym asked))
+    rw (p.1, p.2) (io-refused-free w (read_asks w c.args.task.0 c.args.port c.args.offset) (reads c.args.amount w) (λ bs. Data bs) length (λ x. refl) _ (sym asked))
 
 pub returns-in_err-bytes-clause-planned : goal.returns-in_err-bytes-clause-planned
 returns-in_err-bytes-clause-planned g c =
@@ -32,7 +33,7 @@ returns-in_err-bytes-clause-planned g c =
     let done = rw c.min.ensures at c.in_err-bytes.ensures.does in
     let p = err_from_is_err_and c.from_residual-in_err-bytes.result c.from_residual-in_err-bytes.ensures.1 in
     rw (p.1, p.2)
-    (io-short w (read_asks w c.args.task.0 c.args.port c.args.offset) (reads c.args.amount) (λ bs. Data bs) length (λ x. refl) c.in_ok-from.from (sym asked) _ _ done)
+    (io-short w (read_asks w c.args.task.0 c.args.port c.args.offset) (reads c.args.amount w) (λ bs. Data bs) length (λ x. refl) c.in_ok-from.from (sym asked) _ _ done)
 
 pub returns-in_err-bytes-clause-free : goal.returns-in_err-bytes-clause-free
 returns-in_err-bytes-clause-free g c free =
@@ -41,8 +42,8 @@ returns-in_err-bytes-clause-free g c free =
     let done = rw c.min.ensures at c.in_err-bytes.ensures in
     let p = err_from_is_err_and c.from_residual-in_err-bytes.result c.from_residual-in_err-bytes.ensures.1 in
     rw (p.1, p.2)
-    (io-short-free w (read_asks w c.args.task.0 c.args.port c.args.offset) (reads c.args.amount) (λ bs. Data bs) length (λ x. refl) c.in_ok-from.from (sym asked)
-    (λ at. FreeRead at (min c.args.amount most_read)) _ _ done.does done.free free)
+    (io-short-free w (read_asks w c.args.task.0 c.args.port c.args.offset) (reads c.args.amount w) (λ bs. Data bs) length (λ x. refl) c.in_ok-from.from (sym asked)
+    (λ a. FreeRead a.at (min c.args.amount most_read) (writers_at w a.node)) _ _ done.does done.free free)
 
 pub returns-clause-planned : goal.returns-clause-planned
 returns-clause-planned g c =
@@ -50,7 +51,7 @@ returns-clause-planned g c =
     let asked = rw (to_z-of_z w64 c.args.offset c.ranges.offset) at c.in_ok-from.ensures in
     let done = rw c.min.ensures at c.in_ok-bytes.ensures.does in
     let moved = rw c.len.ensures at c.advance.ensures in
-    io-done w (read_asks w c.args.task.0 c.args.port c.args.offset) (reads c.args.amount) (λ bs. Data bs) length (λ x. refl) c.in_ok-from.from (sym asked) c.in_ok-bytes.bytes _ _ done moved
+    io-done w (read_asks w c.args.task.0 c.args.port c.args.offset) (reads c.args.amount w) (λ bs. Data bs) length (λ x. refl) c.in_ok-from.from (sym asked) c.in_ok-bytes.bytes _ _ done moved
 
 pub returns-clause-free : goal.returns-clause-free
 returns-clause-free g c free = returns-clause-planned g c

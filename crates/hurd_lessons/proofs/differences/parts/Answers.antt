@@ -1,5 +1,5 @@
 use Rattle.std.proofs.Common.{◌∙◌, ap}
-use Rattle.hurd_lessons.specs.Lessons.{note_body, note_empty, note_node, note_open, note_server, note_text, note_users}
+use Rattle.hurd_lessons.specs.Lessons.{note_body, note_empty, note_ends, note_node, note_open, note_server, note_text, note_users}
 use Rattle.hurd_lessons.proofs.differences.parts.Goals as goal
 
 pub returns : goal.returns
@@ -19,4 +19,7 @@ returns c =
     ∙ ap (note_open x y d)
     ((rw c.emptiness.ensures at c.in_ok-note_empty.ensures)
     ∙ ap (note_empty y d)
-    (c.in_ok-note_body.ensures ∙ ap (note_body x y d) (c.in_ok-note_node.ensures ∙ ap (note_node a b x y d) c.new-words.ensures.items))))))
+    (c.in_ok-note_body.ensures
+    ∙ ap (note_body x y d)
+    ((rw c.ends_beside.ensures at c.in_ok-note_ends.ensures)
+    ∙ ap (note_ends x y d) (c.in_ok-note_node.ensures ∙ ap (note_node a b x y d) c.new-words.ensures.items)))))))

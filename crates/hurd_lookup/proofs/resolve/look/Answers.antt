@@ -22,7 +22,7 @@ returns-in_err-place g c =
     let short = rw c.as_slice.ensures at (sym c.if-not-is_short.false ∙ c.is_short.ensures) in
     let plain = rw (c.as_slice-2.ensures, no_flags c.empty.result (c.empty.ensures tt), no_mode c.empty-2.result (c.empty-2.ensures tt)) at c.new-request.ensures in
     let walked = rw c.as_slice-3.ensures at c.in_err-place.ensures in
-    let p = err_from_is_err_and c.from_residual-in_err-place.result c.from_residual-in_err-place.ensures.1 in
+    let p = err_from_is_err_and c.from_residual.result c.from_residual.ensures.1 in
     rw (p.1, p.2) (leg_refused w c.args.ids.now (leg_of c.args.leg) h.0 h.1 short c.new-request.result plain _ walked)
 
 pub returns : goal.returns

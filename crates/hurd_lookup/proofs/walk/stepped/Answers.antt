@@ -5,14 +5,14 @@ use Rattle.std.proofs.lemmas.Result.{err_from_is_err_and}
 use Rattle.hurd_core.specs.Core.{world_of}
 use Rattle.hurd_lookup.specs.declared.walk.Next.TheVariants.{Absent, Branch}
 use Rattle.hurd_lookup.specs.Path.{names_in}
-use Rattle.hurd_lookup.specs.Ends.{right_by}
+use Rattle.hurd_lookup.specs.Ends.{authority_of}
 use Rattle.hurd_lookup.proofs.StepLaws.{step_is}
 use Rattle.hurd_lookup.proofs.walk.stepped.Goals as goal
 
 pub returns-in_err-miss-in-Absent : goal.returns-in_err-miss-in-Absent
 returns-in_err-miss-in-Absent g c =
     let w = world_of g.S.Server.meaning c.args.core.now in
-    let q = right_by c.args.authority in
+    let q = authority_of c.args.authority in
     let p = err_from_is_err_and c.from_residual-in_err-miss-in-Absent.result c.from_residual-in_err-miss-in-Absent.ensures.1 in
     let asked = rw c.in-Absent.is at c.in_ok-node.ensures in
     let missed = rw c.is_last.ensures at (c.in_err-miss-in-Absent.ensures w q) in
@@ -21,7 +21,7 @@ returns-in_err-miss-in-Absent g c =
 pub returns-in_ok-miss-in-Absent : goal.returns-in_ok-miss-in-Absent
 returns-in_ok-miss-in-Absent g c =
     let w = world_of g.S.Server.meaning c.args.core.now in
-    let q = right_by c.args.authority in
+    let q = authority_of c.args.authority in
     let asked = rw c.in-Absent.is at c.in_ok-node.ensures in
     let missed = rw c.is_last.ensures at (c.in_ok-miss-in-Absent.ensures w q) in
     (λ onward. step_is w q c.args.request c.args.dir c.args.name.now (names_in c.args.rest.now) Absent asked onward ∙ missed.0, missed.1)
@@ -29,7 +29,7 @@ returns-in_ok-miss-in-Absent g c =
 pub returns-in-Branch : goal.returns-in-Branch
 returns-in-Branch g c =
     let w = world_of g.S.Server.meaning c.args.core.now in
-    let q = right_by c.args.authority in
+    let q = authority_of c.args.authority in
     let asked = rw c.in-Branch.is at c.in_ok-node.ensures in
     let into = rw c.requires at (c.go_into.ensures.place w q) in
     (λ onward. step_is w q c.args.request c.args.dir c.args.name.now (names_in c.args.rest.now) (Branch c.in-Branch.branch) asked onward ∙ ap Ok (sym into), c.go_into.ensures.can w q)

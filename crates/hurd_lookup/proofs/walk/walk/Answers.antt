@@ -3,14 +3,14 @@ use Rattle.std.proofs.Common.{◌∙◌, ap, sym}
 use Rattle.std.proofs.lemmas.Result.{err_from_is_err_and}
 use Rattle.hurd_core.specs.Core.{world_of}
 use Rattle.hurd_lookup.specs.Path.{names_in}
-use Rattle.hurd_lookup.specs.Ends.{right_by}
+use Rattle.hurd_lookup.specs.Ends.{authority_of}
 use Rattle.hurd_lookup.specs.Lookup.{walk}
 use Rattle.hurd_lookup.proofs.walk.walk.Goals as goal
 
 pub returns-in_err-node : goal.returns-in_err-node
 returns-in_err-node g c =
     let w = world_of g.S.Server.meaning c.args.core.now in
-    let q = right_by c.args.authority in
+    let q = authority_of c.args.authority in
     let p = err_from_is_err_and c.from_residual.result c.from_residual.ensures.1 in
     rw (p.1, p.2)
     (sym c.loop-name.invariant
@@ -20,7 +20,7 @@ returns-in_err-node g c =
 pub returns-in-To : goal.returns-in-To
 returns-in-To g c =
     let w = world_of g.S.Server.meaning c.args.core.now in
-    let q = right_by c.args.authority in
+    let q = authority_of c.args.authority in
     let goes = rw c.in-To.is at c.in_ok-node.ensures in (
       sym c.loop-name.invariant
           ∙ ap (walk w q c.args.request c.loop-name.here) c.in-Some.ensures.0
@@ -31,7 +31,7 @@ returns-in-To g c =
 pub loop-name-preserved : goal.loop-name-preserved
 loop-name-preserved g c =
     let w = world_of g.S.Server.meaning c.args.core.now in
-    let q = right_by c.args.authority in
+    let q = authority_of c.args.authority in
     let goes = rw c.in-On.is at c.in_ok-node.ensures in
     sym (goes (λ n. walk w q c.args.request n (names_in c.in-Some.after.now)))
     ∙ sym (ap (walk w q c.args.request c.loop-name.here) c.in-Some.ensures.0)
@@ -40,5 +40,5 @@ loop-name-preserved g c =
 pub returns : goal.returns
 returns g c =
     let w = world_of g.S.Server.meaning c.args.core.now in
-    let q = right_by c.args.authority in
+    let q = authority_of c.args.authority in
     rw (sym c.loop-name.invariant ∙ ap (walk w q c.args.request c.loop-name.here) c.in_default.ensures) (c.arrive.ensures w q)

@@ -3,13 +3,13 @@ use Rattle.std.proofs.Common.{◌≡◌, length}
 use Rattle.hurd_core.specs.Core.{world_of}
 use Rattle.hurd_lookup.specs.Path.{names_in}
 use Rattle.hurd_lookup.specs.Lookup.{walk}
-use Rattle.hurd_lookup.specs.Ends.{right_by}
+use Rattle.hurd_lookup.specs.Ends.{authority_of}
 use Rattle.hurd_lookup.proofs.walk.walk.Given as goal
 
 abbrev pub invariant-loop-name : goal.invariant-loop-name
 invariant-loop-name g l =
-    walk (world_of g.S.Server.meaning l.core) (right_by l.authority) l.request l.here (names_in l.rest)
-    ≡ walk (world_of g.S.Server.meaning l.core) (right_by l.authority) l.request l.fn.start (names_in l.path)
+    walk (world_of g.S.Server.meaning l.core) (authority_of l.authority) l.request l.here (names_in l.rest)
+    ≡ walk (world_of g.S.Server.meaning l.core) (authority_of l.authority) l.request l.fn.start (names_in l.path)
 
 abbrev pub decreases-loop-name : goal.decreases-loop-name
 decreases-loop-name g l = length l.rest

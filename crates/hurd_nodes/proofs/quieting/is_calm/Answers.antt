@@ -1,4 +1,4 @@
-use Rattle.std.proofs.Common.{sym, ap, ◌∙◌}
+use Rattle.std.proofs.Common.{sym, ◌∙◌}
 use Rattle.hurd_nodes.proofs.CalmLaws.{all-listed}
 use Rattle.hurd_nodes.proofs.quieting.is_calm.Goals as goal
 

@@ -2,7 +2,7 @@
 use Rattle.std.proofs.lemmas.Result.{err_from_is_err_and}
 use Rattle.std.proofs.Common.{refl}
 use Rattle.hurd_nodes.specs.Shown.{shown}
-use Rattle.hurd_core.proofs.CoreLaws.{drop-closes, drop-follows}
+use Rattle.hurd_core.proofs.CoreLaws.{drop-follows}
 use Rattle.std.proofs.Common.{sym, arith}
 use Rattle.hurd_core.proofs.UserLaws.{dropped_counts}
 use Rattle.hurd_core.proofs.the_core.Core.drop_port.Goals as goal
@@ -11,12 +11,12 @@ pub returns-in_err-deallocate : goal.returns-in_err-deallocate
 returns-in_err-deallocate g c =
     let p = err_from_is_err_and c.from_residual.result c.from_residual.ensures.1 in
     rw (p.1, p.2, ← c.self.view_is)
-    (drop-follows (shown g.S.Server.meaning c.self.inside.nodes) c.self.inside.ports.state c.args.task.0 c.args.port _ c.in_err-deallocate.ensures.settled _ _ c.in_err-deallocate.ensures.answer refl)
+    (drop-follows (shown g.S.Server.meaning c.self.inside.nodes) c.self.inside.ports.state c.args.task.0 c.args.port _ _ _ c.in_err-deallocate.ensures.answer refl)
 
 pub returns : goal.returns
 returns g c =
     rw (← c.self.view_is)
-    (drop-closes (shown g.S.Server.meaning c.self.inside.nodes) c.self.inside.ports.state c.args.task.0 c.args.port _ c.in_ok-deallocate.ensures.settled _ _ _ (rw (← c.self.view_is) at c.closing-closing.ensures) c.close.ensures c.settle.ensures tt c.in_ok-deallocate.ensures.answer)
+    (drop-follows (shown g.S.Server.meaning c.self.inside.nodes) c.self.inside.ports.state c.args.task.0 c.args.port _ _ _ c.in_ok-deallocate.ensures.answer c.settle.ensures)
 
 pub subtract-requires : goal.subtract-requires
 subtract-requires g c s =

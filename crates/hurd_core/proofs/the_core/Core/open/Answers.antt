@@ -1,13 +1,11 @@
--- The ports with a port more are the world with it, its node is counted, and so is a user of that node's server.
+-- The ports with a port more are the world with it, and a user of the node's server is counted.
 use Rattle.std.proofs.Common.{refl, sym, inl, inr, ap}
 use Rattle.std.specs.Prelude.{Result, is_ok}
 use Rattle.hurd_machine.proofs.Common.{Errno, Name, NodeState, home_in, is_home, shown, uses_server, world_from}
 use Rattle.std.proofs.lemmas.Result.{err_from_is_err_and}
-use Rattle.hurd_trans_iface.specs.declared.header_edit.HeaderEdit.TheVariants.{CountOpen}
 use Rattle.hurd_core.proofs.CoreLaws.{room-had, room-refused}
-use Rattle.hurd_core.proofs.CountLaws.{told-counted}
-use Rattle.hurd_core.proofs.RightLaws.{open-does, opened-does}
-use Rattle.hurd_core.proofs.UserLaws.{inserted_counts, user_counted, user_fits, users_still}
+use Rattle.hurd_core.proofs.RightLaws.{open-does}
+use Rattle.hurd_core.proofs.UserLaws.{inserted_counts, user_counted, user_fits}
 use Rattle.hurd_core.proofs.the_core.Core.open.Goals as goal
 
 pub returns-in_err-room : goal.returns-in_err-room
@@ -42,10 +40,8 @@ invariant_of-self-2 g c =
     let H = c.self.inside.ports.state in
     let sites = c.self.inside.nodes.sites in
     let more = λ (s : Name). inserted_counts N H _ c.args.task.0 (uses_server sites s) c.args.node c.args.ids c.args.parents c.args.modes _ (is_home s (home_in sites c.args.node)) (λ x. refl) (open-does N H c.args.task.0 c.args.node c.args.ids c.args.parents c.args.modes _ _ c.in_ok-port.ensures.ok) in
-    users_still _ _ _ _ _ (user_counted _ _ _ sites H.tasks _ (home_in sites c.args.node) c.self.invariant c.reserve.ensures.entries more (rw c.home.ensures at c.add.ensures)) (ap (λ (z : Result (Unit {0}) Errno × NodeState). z.1.sites) c.edit_header.ensures.shown) (λ s. refl)
+    user_counted _ _ _ sites H.tasks _ (home_in sites c.args.node) c.self.invariant c.reserve.ensures.entries more (rw c.home.ensures at c.add.ensures)
 
 pub returns : goal.returns
 returns g c =
-    rw (← c.self.view_is)
-    (opened-does (shown g.S.Server.meaning c.self.inside.nodes) c.self.inside.ports.state c.args.task.0 c.args.node c.args.ids c.args.parents c.args.modes _ _ _ c.in_ok-port.ensures.ok
-    (told-counted (shown g.S.Server.meaning c.self.inside.nodes) (shown g.S.Server.meaning c.edit_header.new.self) c.args.node (CountOpen c.args.modes) c.edit_header.result (λ k b. refl) c.edit_header.ensures.shown))
+    rw (← c.self.view_is) (open-does (shown g.S.Server.meaning c.self.inside.nodes) c.self.inside.ports.state c.args.task.0 c.args.node c.args.ids c.args.parents c.args.modes _ _ c.in_ok-port.ensures.ok)

@@ -9,7 +9,7 @@ use Rattle.hurd_core.proofs.the_core.Core.read.Goals as goal
 pub returns-clause-does : goal.returns-clause-does
 returns-clause-does g c =
     let f = g.S.Server.meaning in
-    rw (← c.self.view_is) (asked-does (shown f c.self.inside.nodes) c.self.inside.ports.state c.args.node (reading c.args.at c.args.amount) c.read.result (shown f c.read.new.self) c.read.ensures.shown)
+    rw (← c.writers-writers.ensures, ← c.self.view_is) (asked-does (shown f c.self.inside.nodes) c.self.inside.ports.state c.args.node (reading c.args.at c.args.amount c.writers-writers.result) c.read.result (shown f c.read.new.self) c.read.ensures.shown)
 
 pub invariant_of-self : goal.invariant_of-self
 invariant_of-self g c =

@@ -1,4 +1,4 @@
--- The nodes settle, and the opens are as they were, since each is held.
+-- The nodes settle, and the ports are as they were.
 use Rattle.hurd_machine.proofs.Common.{NodeState, count_rights, shown, uses_server}
 use Rattle.hurd_core.proofs.SettleLaws.{settled_world}
 use Rattle.std.proofs.Common.{sym, ap, ◌∙◌}
@@ -7,7 +7,7 @@ use Rattle.hurd_core.proofs.the_core.Core.settle.Goals as goal
 
 pub returns : goal.returns
 returns g c =
-    rw (← c.self.view_is) (settled_world c.self.inside.ports.state c.opens_are_held.ensures (shown g.S.Server.meaning c.self.inside.nodes) _ c.settle.ensures.shown)
+    rw (← c.self.view_is) (settled_world c.self.inside.ports.state (shown g.S.Server.meaning c.self.inside.nodes) _ c.settle.ensures.shown)
 
 pub invariant_of-self : goal.invariant_of-self
 invariant_of-self g c s =

@@ -8,7 +8,7 @@ use Rattle.hurd_core.proofs.the_core.Core.write.Goals as goal
 pub returns-clause-does : goal.returns-clause-does
 returns-clause-does g c =
     let f = g.S.Server.meaning in
-    rw (← c.self.view_is) (asked-does (shown f c.self.inside.nodes) c.self.inside.ports.state c.args.node (writing c.args.at c.args.bytes.now) c.write.result (shown f c.write.new.self) c.write.ensures.shown)
+    rw (← c.readers-readers.ensures, ← c.self.view_is) (asked-does (shown f c.self.inside.nodes) c.self.inside.ports.state c.args.node (writing c.args.at c.args.bytes.now c.readers-readers.result) c.write.result (shown f c.write.new.self) c.write.ensures.shown)
 
 pub invariant_of-self : goal.invariant_of-self
 invariant_of-self g c =

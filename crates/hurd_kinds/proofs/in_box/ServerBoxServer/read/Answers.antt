@@ -9,4 +9,4 @@ use Rattle.hurd_kinds.proofs.in_box.ServerBoxServer.read.Goals as goal
 pub returns-in-Fixed-clause-steps : goal.returns-in-Fixed-clause-steps
 unfolding box_meaning
 returns-in-Fixed-clause-steps c =
-    stepped_as (step_of (reading c.args.at c.args.amount) c.args.node) (ap box_meaning c.in-Fixed.is ∙ ap fixed_meaning (sym c.deref_mut-in-Fixed.ensures.value)) c.read-in-Fixed.ensures.steps
+    stepped_as (step_of (reading c.args.at c.args.amount c.args.writers) c.args.node) (ap box_meaning c.in-Fixed.is ∙ ap fixed_meaning (sym c.deref_mut-in-Fixed.ensures.value)) c.read-in-Fixed.ensures.steps

@@ -1,5 +1,5 @@
-use Rattle.std.proofs.Common.{◌∙◌, sym, ap}
-use Rattle.hurd_pictures.proofs.SearchLaws.{named_within, sought_at}
+use Rattle.std.proofs.Common.{◌∙◌, sym}
+use Rattle.hurd_pictures.proofs.SearchLaws.{sought_at}
 use Rattle.hurd_pictures.proofs.names.Sought.first.Goals as goal
 
 pub returns-then-is_at : goal.returns-then-is_at

@@ -31,7 +31,7 @@ remove-requires c =
     let ss = c.self.inside.tasks.items in
     let found = rw c.deref.ensures.value at c.in-Some.ensures.lookup in
     let seat = slice_get_read ss (length ss) c.args.task.0 c.index_mut.result.now refl found.3.0 c.index_mut.ensures.value in
-    seat-ordered c.self.inside.opens.entries ss c.args.task.0 c.index_mut.result.now c.self.invariant.sound seat
+    seat-ordered c.self.inside.opens.all ss c.args.task.0 c.index_mut.result.now c.self.invariant.sound seat
 
 -- the seat that was read, and its right
 at : (c : goal.After-settle) → slice_get c.self.inside.tasks.items c.args.task.0 ≡ Some c.index_mut.result.now
@@ -53,10 +53,10 @@ counts c =
     c.subtract.ensures
 
 done : (c : goal.After-settle)
-    → Dropped (state_of c.self.inside.opens.entries c.self.inside.tasks.items) (state_of c.settle.new.opens.entries (slice_set c.self.inside.tasks.items c.args.task.0 c.remove.new.self)) c.args.task.0 c.args.port
+    → Dropped (state_of c.self.inside.opens.all c.self.inside.tasks.items) (state_of c.settle.new.opens.all (slice_set c.self.inside.tasks.items c.args.task.0 c.remove.new.self)) c.args.task.0 c.args.port
 done c =
     let settled = rw c.open_name-open_name.ensures at c.settle.ensures in
-    deallocated c.subtract.new.self c.self.inside.tasks.items c.args.task.0 c.args.port c.index_mut.result.now c.in-Some-find.right.now (at c) (right c) c.self.inside.opens.entries c.settle.new.opens.entries c.remove.new.self c.self.invariant.sound
+    deallocated c.subtract.new.self c.self.inside.tasks.items c.args.task.0 c.args.port c.index_mut.result.now c.in-Some-find.right.now (at c) (right c) c.self.inside.opens.all c.settle.new.opens.all c.remove.new.self c.self.invariant.sound
     c.remove.ensures (counts c) settled
 
 pub invariant_of-self : goal.invariant_of-self

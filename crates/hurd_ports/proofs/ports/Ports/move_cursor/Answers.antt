@@ -5,8 +5,8 @@ use Rattle.hurd_ports.proofs.SeatLaws.{edit_open, open-changed}
 use Rattle.hurd_ports.proofs.SoundLaws.{sound-open}
 use Rattle.hurd_ports.proofs.ports.Ports.move_cursor.Goals as goal
 
-done : (c : goal.After-move_cursor) → state_of c.move_cursor.new.opens.entries c.self.inside.tasks.items ≡ edit_open c.args.name (at_cursor c.args.cursor) (state_of c.self.inside.opens.entries c.self.inside.tasks.items)
-done c = open-changed c.self.inside.opens.entries c.move_cursor.new.opens.entries c.self.inside.tasks.items c.args.name (at_cursor c.args.cursor) c.move_cursor.ensures.moved
+done : (c : goal.After-move_cursor) → state_of c.move_cursor.new.self.all c.self.inside.tasks.items ≡ edit_open c.args.name (at_cursor c.args.cursor) (state_of c.self.inside.opens.all c.self.inside.tasks.items)
+done c = open-changed c.self.inside.opens.all c.move_cursor.new.self.all c.self.inside.tasks.items c.args.name (at_cursor c.args.cursor) c.move_cursor.ensures.moved
 
 pub invariant_of-self : goal.invariant_of-self
 invariant_of-self c = record {

@@ -5,7 +5,7 @@ use Rattle.hurd_ports.proofs.EditLaws.{SeatAt, kept-changed, receiving, seat-rec
 use Rattle.hurd_ports.proofs.ports.Ports.receive.Goals as goal
 
 -- the seat that was read
-at : (c : goal.After-self-2-1) → SeatAt c.self.inside.opens.entries c.self.inside.tasks.items c.args.task.0 c.index_mut.result.now
+at : (c : goal.After-self-2-1) → SeatAt c.self.inside.opens.all c.self.inside.tasks.items c.args.task.0 c.index_mut.result.now
 at c = let found = rw c.deref.ensures.value at c.in-Some.ensures.lookup in record { is = slice_get_read c.self.inside.tasks.items _ c.args.task.0 _ refl found.3.0 c.index_mut.ensures.value }
 
 -- it is the one that was found

@@ -12,13 +12,13 @@ use Rattle.hurd_ports.proofs.ports.Ports.send.Goals.{After-reserve_sent}
 
 -- the seat that was read
 below : (c : After-reserve_sent) → c.args.to.0 < length c.self.inside.tasks.items
-below c = task-there c.self.inside.opens.entries _ _ c.in_ok-has_task.field-0 (rw (← c.self.view_is) at c.in_ok-has_task.ensures)
+below c = task-there c.self.inside.opens.all _ _ c.in_ok-has_task.field-0 (rw (← c.self.view_is) at c.in_ok-has_task.ensures)
 
-at : (c : After-reserve_sent) → SeatAt c.self.inside.opens.entries c.self.inside.tasks.items c.args.to.0 c.index_mut-seat.result.now
+at : (c : After-reserve_sent) → SeatAt c.self.inside.opens.all c.self.inside.tasks.items c.args.to.0 c.index_mut-seat.result.now
 at c = record { is = slice_get_read _ _ _ _ refl (below c) c.index_mut-seat.ensures.value }
 
 -- the right that was copied
-copied : (c : After-reserve_sent) → right_of (state_of c.self.inside.opens.entries c.self.inside.tasks.items) c.args.task.0 c.args.port ≡ Ok c.in-Ok.right
+copied : (c : After-reserve_sent) → right_of (state_of c.self.inside.opens.all c.self.inside.tasks.items) c.args.task.0 c.args.port ≡ Ok c.in-Ok.right
 copied c = sym (ap (λ (r : Right). let a : Result Right Errno = Ok r in a) c.in-Ok.ensures ∙ (rw (← c.self.view_is) at c.in_ok-right.ensures))
 
 -- where the inbox finds no room

@@ -5,8 +5,8 @@ use Rattle.hurd_ports.proofs.SeatLaws.{edit_open, open-changed}
 use Rattle.hurd_ports.proofs.SoundLaws.{sound-open}
 use Rattle.hurd_ports.proofs.ports.Ports.set_append.Goals as goal
 
-done : (c : goal.After-set_append) → state_of c.set_append.new.opens.entries c.self.inside.tasks.items ≡ edit_open c.args.name (appending c.args.append) (state_of c.self.inside.opens.entries c.self.inside.tasks.items)
-done c = open-changed c.self.inside.opens.entries c.set_append.new.opens.entries c.self.inside.tasks.items c.args.name (appending c.args.append) c.set_append.ensures.set
+done : (c : goal.After-set_append) → state_of c.set_append.new.self.all c.self.inside.tasks.items ≡ edit_open c.args.name (appending c.args.append) (state_of c.self.inside.opens.all c.self.inside.tasks.items)
+done c = open-changed c.self.inside.opens.all c.set_append.new.self.all c.self.inside.tasks.items c.args.name (appending c.args.append) c.set_append.ensures.set
 
 pub invariant_of-self : goal.invariant_of-self
 invariant_of-self c = record {

@@ -11,14 +11,14 @@ use Rattle.hurd_ports.proofs.ports.Ports.share.Goals as goal
 use Rattle.hurd_ports.proofs.ports.Ports.share.Goals.{After-reserve_port}
 
 -- there is room for the port
-room : (c : After-reserve_port) → Roomy (state_of c.self.inside.opens.entries c.self.inside.tasks.items) c.args.task.0 0
+room : (c : After-reserve_port) → Roomy (state_of c.self.inside.opens.all c.self.inside.tasks.items) c.args.task.0 0
 room c = room-is _ _ _ (rw (← c.self.view_is) at c.requires)
 
 -- the seat that was read is that of the task
 found : (c : After-reserve_port) → let s = c.index_mut-seat.result.now in (slice_get c.self.inside.tasks.items c.args.task.0 ≡ Some s) × (seat_task s ≡ (room c).task)
 found c = seat-read c.self.inside.tasks.items c.args.task.0 c.index_mut-seat.result.now (room c).task (room c).there c.index_mut-seat.ensures.value
 
-at : (c : After-reserve_port) → SeatAt c.self.inside.opens.entries c.self.inside.tasks.items c.args.task.0 c.index_mut-seat.result.now
+at : (c : After-reserve_port) → SeatAt c.self.inside.opens.all c.self.inside.tasks.items c.args.task.0 c.index_mut-seat.result.now
 at c = record { is = (found c).0 }
 
 -- where the ports find no room

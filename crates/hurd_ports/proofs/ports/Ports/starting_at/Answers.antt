@@ -28,10 +28,10 @@ loop-ids-preserved c = record {
 }
 
 -- what the seats and no opens stand for
-begun : (c : goal.After-new-3) → state_of c.new-2.result.entries c.loop-ids.seats.items ≡ starting_at c.args.tasks.items c.args.next
+begun : (c : goal.After-new-3) → state_of c.new-2.result.all c.loop-ids.seats.items ≡ starting_at c.args.tasks.items c.args.next
 begun c =
     let end : into_iter_items c.loop-ids.ids-iterator ≡ [] = nil_from_length _ (omega (arith, c.in-None.ensures.steps.0, c.loop-ids.ids-iterator.rest.ok.0)) in
-    started c.new-2.result.entries c.loop-ids.seats.items c.args.tasks.items c.loop-ids.yielded _ c.args.next c.new-2.ensures.empty c.loop-ids.invariant.seats c.loop-ids.invariant.all end
+    started c.new-2.result.all c.loop-ids.seats.items c.args.tasks.items c.loop-ids.yielded _ c.args.next c.new-2.ensures c.loop-ids.invariant.seats c.loop-ids.invariant.all end
 
 pub returns : goal.returns
 returns c =

@@ -4,7 +4,7 @@ use Rattle.hurd_ports.proofs.EditLaws.{SeatAt, kept-changed, ready-kept, seat-di
 use Rattle.hurd_ports.proofs.ports.Ports.take_ids.Goals as goal
 
 -- the seat that was read
-at : (c : goal.After-self-1) → SeatAt c.self.inside.opens.entries c.self.inside.tasks.items c.args.task.0 c.index_mut.result.now
+at : (c : goal.After-self-1) → SeatAt c.self.inside.opens.all c.self.inside.tasks.items c.args.task.0 c.index_mut.result.now
 at c = record { is = slice_get_read c.self.inside.tasks.items _ c.args.task.0 _ refl (omega (arith, c.self.inside.tasks.ok.0)) c.index_mut.ensures.value }
 
 pub invariant_of-self : goal.invariant_of-self

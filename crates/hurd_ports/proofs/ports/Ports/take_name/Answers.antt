@@ -6,7 +6,7 @@ use Rattle.hurd_ports.proofs.EditLaws.{SeatAt, kept-changed, naming_more, ready-
 use Rattle.hurd_ports.proofs.ports.Ports.take_name.Goals as goal
 
 -- the seat that was read
-at : (c : goal.After-self-1) → SeatAt c.self.inside.opens.entries c.self.inside.tasks.items c.args.task.0 c.index_mut.result.now
+at : (c : goal.After-self-1) → SeatAt c.self.inside.opens.all c.self.inside.tasks.items c.args.task.0 c.index_mut.result.now
 at c = record { is = seat-found c.self.inside.tasks.items c.args.task.0 _ (λ x. x.made < u64_greatest) (rw (← c.self.view_is) at c.requires) c.index_mut.ensures.value }
 
 pub invariant_of-self : goal.invariant_of-self

@@ -5,7 +5,7 @@ use Rattle.hurd_ports.proofs.CountLaws.{start-counted}
 use Rattle.hurd_ports.proofs.ports.Ports.unpend.Goals as goal
 
 -- the seat that was read
-at : (c : goal.After-self-2-1) → SeatAt c.self.inside.opens.entries c.self.inside.tasks.items c.args.task.0 c.index_mut-seat.result.now
+at : (c : goal.After-self-2-1) → SeatAt c.self.inside.opens.all c.self.inside.tasks.items c.args.task.0 c.index_mut-seat.result.now
 at c = record { is = slice_get_read c.self.inside.tasks.items _ c.args.task.0 _ refl (omega (arith, c.self.inside.tasks.ok.0)) c.index_mut-seat.ensures.value }
 
 pub subtract_start-requires : goal.subtract_start-requires

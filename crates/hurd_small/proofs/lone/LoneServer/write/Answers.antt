@@ -18,7 +18,7 @@ returns-in-Some g c =
     let is = c.in-Some.ensures.there.0 in
     let name = c.in-Some.ensures.there.1 in
     let k = c.write.new.self in
-    let q = writing c.args.at c.args.bytes.now in
+    let q = writing c.args.at c.args.bytes.now c.args.readers in
     let x = node_of kind text held r in
     let y = node_of kind (g.K.Keeper.text k) (g.K.Keeper.held k) r in
     let told = ap (λ s. s.0) (c.write.ensures.steps r) ∙ told-kept kind text held p r n is name q c.write.result in
@@ -38,7 +38,7 @@ returns-in-None g c =
     let m = lone_meaning kind text held s.presence in
     let n = c.args.node in
     let none = sym (c.in-None.ensures.found kind text held) in
-    let q = writing c.args.at c.args.bytes.now in
+    let q = writing c.args.at c.args.bytes.now c.args.readers in
     record {
       steps = step-nowhere q m n none;
       stream = λ is_stream. told-nowhere q m n none;

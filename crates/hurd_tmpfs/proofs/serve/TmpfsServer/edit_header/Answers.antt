@@ -1,15 +1,27 @@
-use Rattle.std.proofs.Common.{true, false, sym}
-use Rattle.hurd_trans_iface.specs.Answers.{makes_edit}
+use Rattle.std.proofs.Common.{◌≡◌, true, ap, sym}
+use Rattle.std.specs.Prelude.{Result, Ok}
+use Rattle.hurd_creds.specs.declared.errno.Errno.{Errno}
+use Rattle.hurd_trans_iface.specs.declared.header_edit.HeaderEdit.{HeaderEdit}
+use Rattle.hurd_trans_iface.specs.Answers.{header_after, header_edited}
+use Rattle.hurd_trans_iface.specs.Nodes.{Node, with_header}
 use Rattle.hurd_tmpfs.specs.Tree.{tree}
 use Rattle.hurd_tmpfs.proofs.NamelessLaws.{tree-kept}
 use Rattle.hurd_tmpfs.proofs.StoredLaws.{changed-in, found-in, node-absent}
 use Rattle.hurd_trans_iface.proofs.NodeSteps.{edited-entered, header-here, header-nowhere}
 use Rattle.hurd_tmpfs.proofs.serve.TmpfsServer.edit_header.Goals as goal
 
+-- the answer and the node that an edit leaves
+abbrev Done : Type 0
+Done = Result (Unit {0}) Errno × Node
+
+-- a node whose header is edited is what an edit leaves that is made
+done_as : (e : HeaderEdit) (x y : Node) → y ≡ with_header (header_after e) x → ◌≡◌ {A = Done} (Ok tt, y) (header_edited true e x)
+done_as e x y is = ap (λ (z : Node). let d : Done = (Ok tt, z) in d) is
+
 pub invariant_of-self : goal.invariant_of-self
 invariant_of-self c =
     let s = c.args.self.now in
-    let entered = edited-entered (makes_edit true false c.args.edit) c.args.edit _ _ _ c.edit_header.ensures in
+    let entered = edited-entered true c.args.edit _ _ _ (done_as c.args.edit _ _ c.edit_header.ensures.is) in
     tree-kept s.nodes c.args.node _ _ c.in-Some.ensures.is c.index_mut.ensures.value s.root s.nameless s.room s.listed _ entered
 
 pub returns-in-Some : goal.returns-in-Some
@@ -17,7 +29,7 @@ returns-in-Some c =
     let t = c.args.self.now.nodes in
     let at = c.in-Some.ensures.is in
     let value = c.index_mut.ensures.value in
-    header-here (tree c.args.self.now) c.args.node _ (found-in t c.args.node _ _ at value) c.args.edit _ _ _ c.edit_header.ensures (changed-in t c.args.node _ _ at value _)
+    header-here (tree c.args.self.now) c.args.node _ (found-in t c.args.node _ _ at value) c.args.edit _ _ _ (done_as c.args.edit _ _ c.edit_header.ensures.is) (changed-in t c.args.node _ _ at value _)
 
 pub returns-in-None : goal.returns-in-None
 returns-in-None c =

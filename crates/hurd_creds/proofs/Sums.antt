@@ -1,16 +1,23 @@
 -- The sum of a number of each thing that a map holds.
-use Rattle.std.proofs.Common.{◌≡◌, ℕ, ◌+◌, ◌≤◌, ◌&&◌, Bool, true, false, cond, List, [], ◌∷◌, Option, Some, None, map, sym, refl, ◌∙◌, ap, ap₂, subst, inl, inr, arith}
+use Rattle.std.proofs.Common.{◌≡◌, ◌≢◌, ◌⊎◌, ℕ, ◌+◌, ◌≤◌, ◌&&◌, Bool, true, false, cond, List, [], ◌∷◌, Option, Some, None, map, sym, refl, ◌∙◌, ap, ap₂, subst, inl, inr, arith}
 use Rattle.std.specs.Prelude.{T}
 use Rattle.std.specs.List.{sum_by}
 use Rattle.std.specs.declared.cmp.Ordering.{Ordering}
 use Rattle.std.specs.declared.cmp.Ordering.TheVariants.{Less, Equal, Greater}
-use Rattle.hurd_machine.proofs.Common.{IsAmong, Name, NameMap, edit, entries, entries-insert, eq_by_cmp, get, insert, is_eq, name_cmp, put, retain_keys}
-use Rattle.std.specs.Ordering.{is_lt}
-use Rattle.std.specs.FinMap.{values, entries_sorted, get-entries, from_sorted, entries-from_sorted, find, is_sorted}
+use Rattle.std.specs.Ordering.{eq_by_cmp, is_eq, is_lt}
+use Rattle.std.specs.FinMap.{entries, entries-insert, entries_sorted, entries-from_sorted, find, from_sorted, get, get-entries, insert, is_sorted, put, remove, retain_keys, values}
 use Rattle.std.specs.FinMap.Entries.{by_order, below_all, where_key, is_sorted-where_key, find-where_key}
 use Rattle.std.proofs.lemmas.List.Sums.{sum_by-cons}
-use Rattle.hurd_creds.proofs.NameLaws.{name_total, name_exact, equal_if_tied, tied-itself, same_map_by, edit_found, edit_absent}
-use Rattle.hurd_machine.proofs.Retained.{get-retained}
+use Rattle.hurd_creds.specs.Names.{name_cmp}
+use Rattle.hurd_creds.specs.NameMaps.{NameMap, edit}
+use Rattle.hurd_creds.specs.declared.name.Name.{Name}
+use Rattle.hurd_creds.proofs.NameLaws.{name_total, name_exact, equal_if_tied, tied-itself, same_map_by, same_or_apart, edit_found, edit_absent, get_here, get_apart, remove_here, remove_apart}
+use Rattle.hurd_creds.proofs.Retained.{get-retained}
+
+-- x is one of a list
+abbrev IsAmong : {X : Type 0} → X → List X → Type 0
+IsAmong x [] = ⊥
+IsAmong x (y ∷ ys) = (y ≡ x) ⊎ IsAmong x ys
 
 -- lists in the order of their names
 
@@ -107,6 +114,26 @@ module _ {X : Type 0} (f : X → ℕ) where
       go : (o : Option X) → get m k ≡ o → total (edit k g m) ≡ total m
       go None is = ap total (edit_absent m k g is)
       go (Some x) is = let e = total_edit m k g x is in let s = same x is in omega arith
+
+  -- without what stands there
+  pub total_remove : (m : NameMap X) (k : Name) → total (remove m k) + of_found (get m k) ≡ total m
+  total_remove m k = go (get m k) refl
+    where
+      back : (x : X) → get m k ≡ Some x → (q : Name) → (q ≡ k) ⊎ (q ≢ k) → get (insert (remove m k) k x) q ≡ get m q
+      back x is q (inl e) = rw e (get_here (remove m k) k x ∙ sym is)
+      back x is q (inr apart) = get_apart (remove m k) k x q apart ∙ remove_apart m k q apart
+
+      gone : get m k ≡ None → (q : Name) → (q ≡ k) ⊎ (q ≢ k) → get (remove m k) q ≡ get m q
+      gone is q (inl e) = rw e (remove_here m k ∙ sym is)
+      gone is q (inr apart) = remove_apart m k q apart
+
+      go : (o : Option X) → get m k ≡ o → total (remove m k) + of_found o ≡ total m
+      go None is = let same = ap total (same_map_by (remove m k) m (λ q. gone is q (same_or_apart q k))) in omega arith
+      go (Some x) is =
+          let same = ap total (same_map_by (insert (remove m k) k x) m (λ q. back x is q (same_or_apart q k))) in
+          let all = total_insert (remove m k) k x in
+          let none = ap of_found (remove_here m k) in
+          omega arith
 
   -- what stands in a list is found there under its name
   among_found : (d : Name × X) (es : List (Name × X)) → T (is_sorted name_cmp es) → IsAmong d es → find name_cmp d.0 es ≡ Some d.1
