@@ -132,17 +132,20 @@ module _ (w : World) (t : ℕ) (x : Task) (is : task_at w t ≡ Some x) (s : Nam
   pub nameless_whole : {T : Part → Type 0} → Sound w → keeps_tree i.kind ≡ true → IsFilled i node → ((m : Name) → IsAmong m (ways_of parents) → CanBeNamed w m) → T (UsersOf s)
       → ((S : ℕ → Bool) → S t ≡ true → Taken S w ids × ((m : Name) → IsAmong m (ways_of parents) → SeenOrNew S w m) × Sees S w (OptionsOf s)) → Whole t (Full w t T) w w (nameless t x s node ids parents modes)
   nameless_whole {T} st tree fit up users sees =
-      record { piece = piece_then (MakeNode n s node ∷ []) file_opened (tt, tt) (stands st) (record {
-        within = ((own, inr (inr new), inr (inr new), inr (inr new)), tt);
-        proper = ((next, record { info = i; is_server = server; tree = tree; shape = lone.shape; empty = lone.empty; parent = λ p e. absurd (cc (lone.alone, e)) }), λ one. tt);
-        linked = made_linked c st.linked;
-        filled = filled_made w n s node (λ j e. let same : i ≡ j = cc (server, e) in rw (← same) fit) st.filled;
-        held = held_one (MakeNode n s node) w tt st.settled.opens;
-        may = λ S ours. ((ours, inl (sees S ours).2, λ p e. absurd (cc (lone.alone, e))), tt);
-      }) (λ d. opens_piece made t (named 1 x) seat n ids parents modes d own (inr (inr (later_new w t 1 x is))) (λ p on. elim on [ inl one ↦ let same : one.0 ≡ s = cc (one.1, home) in inl (rw (one.2, same) users) | inr ends ↦ rw (ends.1) (inr (inr new)) ])
-      (named_below w c n next 1 n refl (omega arith), inr shape.0) ways_yet (λ writes. (λ h e. let same : node.header ≡ h = cc (header, e) in rw (← same) lone.file, shape.1))
-      (λ S ours. opens_may S w made t (named 1 x) n ids parents modes ours (permits.later_new S w t x (x.made + 1) ours is (omega arith)) (inr (fresh_yet S ours)) (sees S ours).1 (inr (sees S ours).0)
-      (λ read h e. absurd ((fresh_yet S ours).1 (header_old c n h e))))); rests = nameless_rests c st.settled }
+      record {
+        piece = piece_then (MakeNode n s node ∷ []) file_opened (tt, tt) (stands st) (record {
+          within = ((own, inr (inr new), inr (inr new), inr (inr new)), tt);
+          proper = ((next, record { info = i; is_server = server; tree = tree; shape = lone.shape; empty = lone.empty; parent = λ p e. absurd (cc (lone.alone, e)) }), λ one. tt);
+          linked = made_linked c st.linked;
+          filled = filled_made w n s node (λ j e. let same : i ≡ j = cc (server, e) in rw (← same) fit) st.filled;
+          held = held_one (MakeNode n s node) w tt st.settled.opens;
+          may = λ S ours. ((ours, inl (sees S ours).2, λ p e. absurd (cc (lone.alone, e))), tt);
+        }) (λ d. opens_piece made t (named 1 x) seat n ids parents modes d own (inr (inr (later_new w t 1 x is))) (λ p on. elim on [ inl one ↦ let same : one.0 ≡ s = cc (one.1, home) in inl (rw (one.2, same) users) | inr ends ↦ rw (ends.1) (inr (inr new)) ])
+            (named_below w c n next 1 n refl (omega arith), inr shape.0) ways_yet (λ writes. (λ h e. let same : node.header ≡ h = cc (header, e) in rw (← same) lone.file, shape.1))
+            (λ S ours. opens_may S w made t (named 1 x) n ids parents modes ours (permits.later_new S w t x (x.made + 1) ours is (omega arith)) (inr (fresh_yet S ours)) (sees S ours).1 (inr (sees S ours).0)
+            (λ read h e. absurd ((fresh_yet S ours).1 (header_old c n h e)))));
+        rests = nameless_rests c st.settled;
+      }
     where
       c : Coherent w
       c = st.coherent

@@ -151,10 +151,16 @@ letting_proper y (Start n) = tt
 -- the open is of the right's node
 letting_within : (T : Part → Type 0) (w y : World) (r : Right) → nodes_of y ≡ nodes_of w → y.opens ≡ w.opens → ((z : Opened) (q : IoRight) → Io q ≡ r → open_at w q.open_name ≡ Some z → z.node ≡ q.node)
     → ((q : Part) → OnDrop w r q → T q) → AllWithin T y (letting_go (open_of r))
-letting_within T w y (Io r) nodes opens of parts = ((parts (OpenOf r.open_name) (inl (inl refl)), λ z at told.
-    let here : z.node ≡ r.node = of z r refl (ap (λ (m : OpenMap). get m r.open_name) (sym opens) ∙ at) in
-    let counts : counts_at w r.node ≡ true = ap (λ (h : NodeState). counts_by (server_of h r.node)) (sym nodes) ∙ ap (counts_at y) (sym here) ∙ told in
-    subst (λ n. T (EndsOf n)) (sym here) (parts (EndsOf r.node) (inr (counts, refl)))), tt)
+letting_within T w y (Io r) nodes opens of parts = (
+  (
+    parts (OpenOf r.open_name) (inl (inl refl)),
+    λ z at told.
+        let here : z.node ≡ r.node = of z r refl (ap (λ (m : OpenMap). get m r.open_name) (sym opens) ∙ at) in
+        let counts : counts_at w r.node ≡ true = ap (λ (h : NodeState). counts_by (server_of h r.node)) (sym nodes) ∙ ap (counts_at y) (sym here) ∙ told in
+        subst (λ n. T (EndsOf n)) (sym here) (parts (EndsOf r.node) (inr (counts, refl))),
+  ),
+  tt,
+)
 letting_within T w y (Control s) nodes opens of parts = tt
 letting_within T w y (Start n) nodes opens of parts = tt
 
