@@ -55,6 +55,7 @@ FORMS = {
 }
 FORMS = {form: re.compile(pattern) for form, pattern in FORMS.items()}
 SEEN = re.compile(r"([-dlpc])([0-7]{6}) [0-9]+ ([0-9]+) ([0-9]+) ([0-9]+)(?: passive .*)?")
+ENDS = re.compile(r"readers [0-9]+ writers [0-9]+")
 BODY = re.compile(r"(?:entries|bytes|given) .*|no entries|no bytes|its server's text|its targets' entries|zeros")
 failures = []
 
@@ -167,6 +168,11 @@ def nodes_drawn(lines):
         yield (x["kind"], int(x["mode"], 8), x["owner"], x["group"], x["size"]), MARKS.get(x["mark"])
 
 
+def numbers(text):
+    """The numbers in a text, in order."""
+    return tuple(re.findall("[0-9]+", text))
+
+
 def spelled(name):
     """A name that is spelled in the same way everywhere; of any other nothing is kept."""
     return name if re.fullmatch(r"[A-Za-z0-9_-]+", name) else "?"
@@ -185,6 +191,7 @@ def check_all(text, lines):
     """What is drawn is what all see."""
     name, seen = text + ".dot", told(text + ".all")
     compare(name, "nodes", counted(node for node, _ in nodes_drawn(lines)), counted(node for node, _ in nodes_told(seen, owners_of(text))))
+    compare(name, "readers and writers", counted(map(numbers, filter(None, (x["ends"] for x in lines["node"])))), counted(numbers(part) for _, parts in seen for part in parts if ENDS.fullmatch(part)))
     compare(name, "servers", counted(["server"] * len(lines["server"])), counted("server" for _, parts in seen for part in parts if part.startswith("program ")))
     compare(name, "entries", counted(listings_drawn(lines)), counted(tuple(map(spelled, part.split()[1:])) for _, parts in seen for part in parts if part.startswith("entries ")))
     ports = {}
