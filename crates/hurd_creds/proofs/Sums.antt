@@ -183,3 +183,46 @@ module _ {X : Type 0} (f : X → ℕ) where
   -- of what is kept, where the others count for nothing
   pub total_retained : (m : NameMap X) (p : Name → Bool) → ((k : Name) (x : X) → p k ≡ false → get m k ≡ Some x → f x ≡ 0) → total (retain_keys m p) ≡ total m
   total_retained m p none = ap of_list (entries-retained m p) ∙ kept_sum p (entries m) (λ d i out. none d.0 d.1 out (stands m d i))
+
+  find_among : (q : Name) (x : X) (es : List (Name × X)) → find name_cmp q es ≡ Some x → IsAmong q (map (λ (e : Name × X). e.0) es)
+  find_among q x [] is = absurd (cc)
+  find_among q x (e ∷ es) is = go (eq_by_cmp name_cmp q e.0) refl (find_among q x es) is
+    where
+      go : (b : Bool) → eq_by_cmp name_cmp q e.0 ≡ b → (find name_cmp q es ≡ Some x → IsAmong q (map (λ (d : Name × X). d.0) es)) → cond b (Some e.1) (find name_cmp q es) ≡ Some x
+          → (e.0 ≡ q) ⊎ IsAmong q (map (λ (d : Name × X). d.0) es)
+      go true t rest here = inl (sym (equal_if_tied q e.0 t))
+      go false t rest there = inr (rest there)
+
+  -- maps in which each name counts for as much have one sum
+  pointwise : (ns : List Name) (m k : NameMap X) → ((q : Name) (x : X) → get m q ≡ Some x → IsAmong q ns) → ((q : Name) → of_found (get k q) ≡ of_found (get m q)) → total k ≡ total m
+  pointwise [] m k all same = total_none k (λ q x is. ap of_found (sym is) ∙ same q ∙ none q (get m q) refl) ∙ sym (total_none m (λ q x is. absurd (all q x is)))
+    where
+      none : (q : Name) (o : Option X) → get m q ≡ o → of_found (get m q) ≡ 0
+      none q None e = ap of_found e
+      none q (Some x) e = absurd (all q x e)
+  pointwise (n ∷ ns) m k all same =
+      let one = total_remove m n in
+      let two = total_remove k n in
+      let here = same n in
+      let rest = pointwise ns (remove m n) (remove k n) (λ q x is. elim (same_or_apart q n) [
+        | inl e ↦ let gone : None ≡ Some x = sym (remove_here m n) ∙ ap (get (remove m n)) (sym e) ∙ is in absurd (cc)
+        | inr a ↦ elim (all q x (sym (remove_apart m n q a) ∙ is)) [ inl e ↦ absurd (a (sym e)) | inr i ↦ i ]
+      ]) (λ q. elim (same_or_apart q n) [
+        | inl e ↦ rw e (ap of_found (remove_here k n) ∙ sym (ap of_found (remove_here m n)))
+        | inr a ↦ ap of_found (remove_apart k n q a) ∙ same q ∙ sym (ap of_found (remove_apart m n q a))
+      ]) in
+      omega (arith, one, two, here, rest)
+
+  pub total_pointwise : (m k : NameMap X) → ((q : Name) → of_found (get k q) ≡ of_found (get m q)) → total k ≡ total m
+  total_pointwise m k = pointwise (map (λ (e : Name × X). e.0) (entries m)) m k (λ q x is. find_among q x (entries m) (sym (get-entries m q) ∙ is))
+
+  -- and where one name counts for other than it did, so does the sum
+  pub total_else : (m k : NameMap X) (n : Name) → ((q : Name) → q ≢ n → of_found (get k q) ≡ of_found (get m q)) → total k + of_found (get m n) ≡ total m + of_found (get k n)
+  total_else m k n same =
+      let one = total_remove m n in
+      let two = total_remove k n in
+      let rest = total_pointwise (remove m n) (remove k n) (λ q. elim (same_or_apart q n) [
+        | inl e ↦ rw e (ap of_found (remove_here k n) ∙ sym (ap of_found (remove_here m n)))
+        | inr a ↦ ap of_found (remove_apart k n q a) ∙ same q a ∙ sym (ap of_found (remove_apart m n q a))
+      ]) in
+      omega (arith, one, two, rest)
