@@ -1,7 +1,7 @@
 -- The table of errors.
 use Rattle.std.specs.Prelude.{ℕ, List, codes}
 use Rattle.hurd_creds.specs.declared.errno.Errno.{Errno}
-use Rattle.hurd_creds.specs.declared.errno.Errno.TheVariants.{EPERM, ENOENT, EIO, EBADF, ENOMEM, EACCES, EBUSY, EEXIST, EXDEV, ENOTDIR, EISDIR, EINVAL, EFBIG, EROFS, EPIPE, EWOULDBLOCK, ELOOP, ENAMETOOLONG, ENOTEMPTY, EOPNOTSUPP, EDIED, ENXIO, ESRCH, EOVERFLOW}
+use Rattle.hurd_creds.specs.declared.errno.Errno.TheVariants.{EPERM, ENOENT, EIO, EBADF, ENOMEM, EACCES, EBUSY, EEXIST, EXDEV, ENOTDIR, EISDIR, EINVAL, EFBIG, EROFS, EPIPE, EWOULDBLOCK, ELOOP, ENAMETOOLONG, ENOTEMPTY, EOPNOTSUPP, EDIED, ENXIO, ESRCH, EOVERFLOW, ENOSPC}
 
 -- an error's number
 abbrev pub number_of : Errno → ℕ
@@ -29,6 +29,7 @@ number_of EDIED = 21
 number_of ENXIO = 22
 number_of ESRCH = 23
 number_of EOVERFLOW = 24
+number_of ENOSPC = 25
 
 -- an error's name, in bytes
 abbrev pub name_of : Errno → List ℕ
@@ -56,3 +57,4 @@ name_of EDIED = codes "EDIED"
 name_of ENXIO = codes "ENXIO"
 name_of ESRCH = codes "ESRCH"
 name_of EOVERFLOW = codes "EOVERFLOW"
+name_of ENOSPC = codes "ENOSPC"

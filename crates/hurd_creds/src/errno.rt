@@ -31,6 +31,7 @@ pub enum Errno {
     ENXIO,
     ESRCH,
     EOVERFLOW,
+    ENOSPC,
 }
 
 impl Errno {
@@ -63,6 +64,7 @@ impl Errno {
             Errno::ENXIO => 22,
             Errno::ESRCH => 23,
             Errno::EOVERFLOW => 24,
+            Errno::ENOSPC => 25,
         }
     }
 
@@ -95,6 +97,7 @@ impl Errno {
             Errno::ENXIO => "ENXIO",
             Errno::ESRCH => "ESRCH",
             Errno::EOVERFLOW => "EOVERFLOW",
+            Errno::ENOSPC => "ENOSPC",
         }
     }
 }

@@ -1,6 +1,6 @@
 //! What words say.
 ghost use Rattle.std.specs.Prelude.{◌≡◌, IfOk, IfErr, [], Ok, Err, None};
-ghost use Rattle.hurd_trans_iface.specs.TmpfsKind.{no_options};
+ghost use Rattle.hurd_trans_iface.specs.Arguments.{no_options};
 
 use hurd_creds::Errno;
 use hurd_trans_iface::Words;

@@ -5,10 +5,11 @@ use Rattle.std.specs.Option.{option_map}
 use Rattle.hurd_trans_iface.specs.declared.begun.Begun.{Begun}
 use Rattle.hurd_trans_iface.specs.declared.begun.Begun.TheVariants as said
 use Rattle.hurd_trans_iface.specs.Sayings.{IsFit, server_said}
-use Rattle.hurd_trans_iface.specs.Meaning.{Hello, Symlink, Firmlink, Union, Drip, begin}
+use Rattle.hurd_trans_iface.specs.Meaning.{Tmpfs, Hello, Symlink, Firmlink, Union, Drip, begin}
 use Rattle.hurd_trans_iface.specs.UnionKind.{text_of}
 use Rattle.hurd_trans_iface.specs.Words.{IsWithinLimits}
 use Rattle.hurd_trans_iface.proofs.Beginnings.{begins-said}
+use Rattle.hurd_trans_iface.proofs.SizeWords.{digits-few}
 use Rattle.hurd_trans_iface.proofs.HelloOwes.{text-short}
 use Rattle.hurd_trans_iface.proofs.SymlinkOwes.{link-short}
 use Rattle.hurd_trans_iface.proofs.FirmlinkOwes.{firm-short}
@@ -16,7 +17,7 @@ use Rattle.hurd_trans_iface.proofs.UnionOwes.{paths-same}
 use Rattle.hurd_trans_iface.proofs.DripOwes.{drops-said}
 
 fits : (w : List ℕ) (ws : List (List ℕ)) (b : Begun) → begin (w ∷ ws) ≡ Some (server_said b) → IsWithinLimits (w ∷ ws) → IsFit b
-fits w ws said.Tmpfs h within = tt
+fits w ws (said.Tmpfs digits) h within = digits-few ws digits.now (begins-said Tmpfs w ws digits.now h).1
 fits w ws (said.Hello text) h within = let s = begins-said Hello w ws text.now h in text-short w ws text.now within s.0 s.1
 fits w ws said.Null h within = tt
 fits w ws said.Zero h within = tt

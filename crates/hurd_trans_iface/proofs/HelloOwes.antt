@@ -57,7 +57,7 @@ hello-options-short ws text is = subst IsShort is (hello-short ws)
 hello_options_laws : OptionLaws hello
 hello_options_laws = record {
   no_words = refl;
-  root = λ ws new is. record { lone = refl; rooted = λ text. refl; no_link = refl; aimed = λ text. refl; sized = λ c. refl };
+  root = λ ws new is. record { rooted = λ text. refl; no_link = refl; aimed = λ text. refl; sized = λ lone c. refl; grown = λ tree. absurd (true≢false (sym tree)) };
   plain = hello-options-plain;
   again = λ ws text is. refl;
   within = λ ws text is. hello-within text (hello-options-short ws text is);

@@ -13,9 +13,9 @@ use Rattle.hurd_creds.proofs.StepLaws.{steps-refused, steps-inside}
 use Rattle.hurd_trans_iface.specs.declared.header_edit.HeaderEdit.{HeaderEdit}
 use Rattle.hurd_trans_iface.specs.declared.header_edit.HeaderEdit.TheVariants.{SetAttrs, SetPassive}
 use Rattle.hurd_trans_iface.specs.Nodes.{Node, NodeMap, Reaches, body_of, is_entered, edit_all, with_header, with_body, with_size, on_bytes}
-use Rattle.hurd_trans_iface.specs.Behaviour.{Effect, Question, effect_on, told_of, edit_bytes, edit_size, edits_of, size_left, bytes_left, left_by, served}
+use Rattle.hurd_trans_iface.specs.Behaviour.{Effect, Question, effect_on, fitting, told_of, edit_bytes, edit_size, edits_of, size_left, bytes_left, left_by, served}
 use Rattle.hurd_trans_iface.specs.Answers.{header_after, header_edits, header_edited, set_header_of, edits_if}
-use Rattle.hurd_trans_iface.specs.Meaning.{Meaning, behaviour_of, edited, keeps_tree, edit_header_step, step_of}
+use Rattle.hurd_trans_iface.specs.Meaning.{Meaning, behaviour_of, edited, keeps_tree, edit_header_step, space_of, step_of}
 
 -- a value put in where another one is edited
 pub edit-inserted : {X : Type 0} (m : NameMap X) (n : Name) (x : X) (f : X → X) → edit n f (fin.insert m n x) ≡ fin.insert m n (f x)
@@ -49,11 +49,11 @@ module _ (m : Meaning) (n : Name) (x : Node) (at_n : fin.get m.nodes n ≡ Some 
 
   module _ {T : Type 0} (q : Question T) (got : Result T Errno) where
     abbrev effect : Effect T
-    effect = q (behaviour_of m.kind) m.text x
+    effect = fitting (space_of m) x.header (q (behaviour_of m.kind) m.text x)
 
     step-here : step_of q n m ≡ (told_of effect, with_node m n (left_by effect x))
     step-here =
-        ap (λ (o : Option Node). let e = effect_on q (behaviour_of m.kind) m.text o in (told_of e, edited (edits_of n e) m)) at_n
+        ap (λ (o : Option Node). let e = effect_on q (behaviour_of m.kind) m.text (space_of m) o in (told_of e, edited (edits_of n e) m)) at_n
         ∙ ap (λ (s : Meaning). (told_of effect, s)) (edits-here effect)
 
     -- a step of the node is one of the server
@@ -64,7 +64,7 @@ module _ (m : Meaning) (n : Name) (x : Node) (at_n : fin.get m.nodes n ≡ Some 
 
     -- and its answer is that of the server
     pub told-here : got ≡ told_of effect → got ≡ (step_of q n m).0
-    told-here is = is ∙ sym (ap (λ (o : Option Node). told_of (effect_on q (behaviour_of m.kind) m.text o)) at_n)
+    told-here is = is ∙ sym (ap (λ (o : Option Node). told_of (effect_on q (behaviour_of m.kind) m.text (space_of m) o)) at_n)
 
   -- what is known of the bytes under a name is known of the node's
   pub reaches-here : (count : ℕ) → Reaches (body_of m.nodes n) count → Reaches (Some x.body) count
@@ -100,7 +100,7 @@ header-nowhere e m n none =
     sym (ap (λ (answer : Result (Unit {0}) Errno). let s : Result (Unit {0}) Errno × Meaning = (answer, edited (edits_if answer (header_edits n e)) m) in s) (ap (set_header_of (keeps_tree m.kind)) none))
 
 pub told-nowhere : {T : Type 0} (q : Question T) (m : Meaning) (n : Name) → fin.get m.nodes n ≡ None → Err EDIED ≡ (step_of q n m).0
-told-nowhere q m n none = sym (ap (λ (o : Option Node). told_of (effect_on q (behaviour_of m.kind) m.text o)) none)
+told-nowhere q m n none = sym (ap (λ (o : Option Node). told_of (effect_on q (behaviour_of m.kind) m.text (space_of m) o)) none)
 
 pub step-nowhere : {T : Type 0} (q : Question T) (m : Meaning) (n : Name) → fin.get m.nodes n ≡ None → Steps m (step_of q n m) (Err EDIED) m
 step-nowhere q m n none = steps-refused (step_of q n m) m EDIED (rw none refl)

@@ -15,7 +15,7 @@ begun-kind ws (Some b) h = begins-kind ws (server_said b) (sym h)
 
 -- what they say to a kind
 abbrev pub Says : ServerKind → Begun → Type 0
-Says Tmpfs b = b ≡ said.Tmpfs
+Says Tmpfs b = (digits : Bor (List ℕ)) × (b ≡ said.Tmpfs digits)
 Says Hello b = (text : Bor (List ℕ)) × (b ≡ said.Hello text)
 Says Null b = b ≡ said.Null
 Says Zero b = b ≡ said.Zero
@@ -27,7 +27,7 @@ Says Drip b = (digits : Bor (List ℕ)) × (b ≡ said.Drip digits)
 Says Fifo b = b ≡ said.Fifo
 
 says_own : (b : Begun) → Says (server_said b).kind b
-says_own said.Tmpfs = refl
+says_own (said.Tmpfs digits) = (digits, refl)
 says_own (said.Hello text) = (text, refl)
 says_own said.Null = refl
 says_own said.Zero = refl

@@ -26,17 +26,19 @@ pub left_kept : {T : Type 0} (b : Behaviour) (Holds : Body → Type 0) (text : L
 left_kept b Holds text x (Ok d) l = (λ shaped sized. rw (l.0, l.1) sized, λ holds. rw l.0 holds)
 left_kept b Holds text x (Err e) plain = plain
 
--- where a tree is kept, it is told of nobody, what is made in it has its size, and anything may be in it
+-- where a tree is kept, it is told of nobody, what is made in it has its size, and anything may be in it; where none is, there is no limit
 pub record TreeLaws (b : Behaviour) (Holds : Body → Type 0) : Type 0 where
   pub uncounted : b.tree ≡ true → b.counts ≡ false
   pub newborn : b.tree ≡ true → (text : List ℕ) (dir : Name) (entry : Option (List ℕ)) (new : NewNode) (x : Node) → made_node dir entry new ≡ Some x → IsSized b text x
   pub holds : b.tree ≡ true → (c : Body) → Holds c
+  pub unlimited : b.tree ≡ false → (text : List ℕ) → b.limit text ≡ None
 
-pub treeless : (b : Behaviour) (Holds : Body → Type 0) → b.tree ≡ false → TreeLaws b Holds
-treeless b Holds none = record {
+pub treeless : (b : Behaviour) (Holds : Body → Type 0) → b.tree ≡ false → ((text : List ℕ) → b.limit text ≡ None) → TreeLaws b Holds
+treeless b Holds none unlimited = record {
   uncounted = λ tree. absurd (true≢false (sym tree ∙ none));
   newborn = λ tree text dir entry new x made. absurd (true≢false (sym tree ∙ none));
   holds = λ tree c. absurd (true≢false (sym tree ∙ none));
+  unlimited = λ lone. unlimited;
 }
 
 pub record Shown (b : Behaviour) (Holds : Body → Type 0) : Type 0 where
@@ -79,6 +81,7 @@ module _ (b : Behaviour) (Holds : Body → Type 0) where
     entered = s.entered;
     removed = s.removed;
     newborn = s.tree.newborn;
+    unlimited = s.tree.unlimited;
     read_keeps = s.read_keeps;
     guards = s.guards;
     write_blind = s.write_blind;

@@ -47,7 +47,7 @@ pub still_laws : (s : StillKind) → StillLaws s → Laws (still s) HoldsNothing
 still_laws s l = laws_by (still s) HoldsNothing (record {
   named = λ text. refl;
   rooted = l.rooted;
-  tree = treeless (still s) HoldsNothing refl;
+  tree = treeless (still s) HoldsNothing refl (λ text. refl);
   begun = λ text. empty_holds (is_dir (s.root text).kind);
   read = λ at amount writers text x. kept text x _ (read_fine text at amount);
   write = λ at bs readers text x. kept text x _ (unchanged_fine (s.takes bs) (l.takes bs));

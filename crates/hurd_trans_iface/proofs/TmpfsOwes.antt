@@ -15,7 +15,8 @@ use Rattle.hurd_trans_iface.specs.TmpfsKind.{tmpfs, read_bytes, put_into, write_
 use Rattle.hurd_trans_iface.specs.Bodies.{MayHold}
 use Rattle.hurd_trans_iface.specs.Meaning.{Tmpfs}
 use Rattle.hurd_trans_iface.proofs.Guards.{guards_none}
-use Rattle.hurd_trans_iface.proofs.Owes.{Owes, none-again, or_none, without_options}
+use Rattle.hurd_trans_iface.proofs.Owes.{Owes, or_none}
+use Rattle.hurd_trans_iface.proofs.SizeWords.{size_options_laws, text-again}
 use Rattle.hurd_trans_iface.proofs.Shown.{IsKept, laws_by}
 use Rattle.hurd_trans_iface.proofs.Lengths.{put_grows, put_stays, length-resized}
 use Rattle.hurd_trans_iface.proofs.Goodness.{IsFine, fine_if}
@@ -84,7 +85,7 @@ tmpfs_owes = record {
   laws = laws_by tmpfs (MayHold Tmpfs) (record {
     named = λ text. refl;
     rooted = λ text. refl;
-    tree = record { uncounted = λ is. refl; newborn = λ is text dir entry new x. made_sizes text dir entry new x new.kind; holds = λ is c. tt };
+    tree = record { unlimited = λ lone. absurd (true≢false lone); uncounted = λ is. refl; newborn = λ is text dir entry new x. made_sizes text dir entry new x new.kind; holds = λ is c. tt };
     begun = λ text. tt;
     read = λ at amount writers text x. reads_well text at amount x.header x.body;
     write = λ at bs readers text x. writes_well text x.header x.body at bs;
@@ -96,7 +97,7 @@ tmpfs_owes = record {
     guards = guards_none tmpfs (λ old new. refl);
     write_blind = λ other text at bs readers h c e. refl;
     set_size_blind = λ text size h c e. refl;
-    again = none-again;
-    options = without_options tmpfs refl;
+    again = text-again;
+    options = size_options_laws;
   });
 }

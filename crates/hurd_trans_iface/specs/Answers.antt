@@ -7,7 +7,7 @@ use Rattle.hurd_creds.specs.Names.{same_name}
 use Rattle.hurd_creds.specs.declared.attrs.Kind.{Kind}
 use Rattle.hurd_creds.specs.declared.attrs.Kind.TheVariants.{File, Dir}
 use Rattle.hurd_creds.specs.declared.errno.Errno.{Errno}
-use Rattle.hurd_creds.specs.declared.errno.Errno.TheVariants.{EEXIST, ENOENT, EXDEV, ENOTDIR, EISDIR, EROFS, EOPNOTSUPP, EDIED, EOVERFLOW}
+use Rattle.hurd_creds.specs.declared.errno.Errno.TheVariants.{EEXIST, ENOENT, EXDEV, ENOTDIR, EISDIR, EROFS, EOPNOTSUPP, EDIED, ENOSPC, EOVERFLOW}
 use Rattle.hurd_trans_iface.specs.declared.header_edit.HeaderEdit.{HeaderEdit}
 use Rattle.hurd_trans_iface.specs.declared.header_edit.HeaderEdit.TheVariants.{SetAttrs, SetPassive}
 use Rattle.hurd_trans_iface.specs.declared.new_node.NewNode.{NewNode}
@@ -15,6 +15,7 @@ use Rattle.hurd_trans_iface.specs.declared.root.Root.{Root}
 use Rattle.hurd_trans_iface.specs.declared.root.Crossing.{Crossing}
 use Rattle.hurd_trans_iface.specs.declared.root.Crossing.TheVariants.{Plain, Link, Firm, Union}
 use Rattle.hurd_trans_iface.specs.Nodes.{Entry, Header, Body, Content, Listing, Node, Edit, OnHeader, OnBody, AddNode, is_dir, linked, unlinked, moved_to, with_attrs, with_passive, with_entry, without_entry, new_file, new_dir, with_header}
+use Rattle.hurd_trans_iface.specs.Totals.{counts_for, overfills}
 
 -- the node of the first entry of this name
 abbrev pub entry_in : List ℕ → List Entry → Option Name
@@ -98,17 +99,17 @@ make_edits dir entry new = added dir entry new.name (made_node dir entry new)
 abbrev pub most_links : ℕ
 most_links = 4294967295
 
--- whether a node may get a name in this directory of a tree; `kin`: the two are of one server
-abbrev pub link_in : List ℕ → Bool → Node → Option Node → Result (Unit {0}) Errno
-link_in name kin d None = Err EDIED
-link_in name kin d (Some x) =
+-- whether a node may get a name in this directory of a tree with so much space; `kin`: the two are of one server
+abbrev pub link_in : Option ℕ → List ℕ → Bool → Node → Option Node → Result (Unit {0}) Errno
+link_in space name kin d None = Err EDIED
+link_in space name kin d (Some x) =
     if not kin then Err EXDEV else if is_dir x.header.kind then Err EISDIR else if is_some (entry_of name (Some d.body)) then Err EEXIST
-    else if nat_lt x.header.links most_links then Ok tt else Err EOVERFLOW
+    else if overfills space (counts_for x.header) (counts_for (linked x.header)) then Err ENOSPC else if nat_lt x.header.links most_links then Ok tt else Err EOVERFLOW
 
--- whether a node may get a name in a directory, where the directory's server keeps a tree or doesn't
-abbrev pub link_of : Bool → List ℕ → Bool → Option Node → Option Node → Result (Unit {0}) Errno
-link_of keeps name kin None x = Err EDIED
-link_of keeps name kin (Some d) x = if not (is_dir d.header.kind) then Err ENOTDIR else if not keeps then Err EROFS else link_in name kin d x
+-- whether a node may get a name in a directory, where the directory's server keeps a tree or doesn't, and has so much space
+abbrev pub link_of : Bool → Option ℕ → List ℕ → Bool → Option Node → Option Node → Result (Unit {0}) Errno
+link_of keeps space name kin None x = Err EDIED
+link_of keeps space name kin (Some d) x = if not (is_dir d.header.kind) then Err ENOTDIR else if not keeps then Err EROFS else link_in space name kin d x
 
 -- the entry, and the file with one link more
 abbrev pub link_edits : Name → List ℕ → Name → List Edit

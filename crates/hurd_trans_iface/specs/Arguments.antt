@@ -1,5 +1,5 @@
 -- What the words behind a program's name say, as several kinds of servers take them.
-use Rattle.std.specs.Prelude.{ℕ, Bool, if◌then◌else◌, List, [], ◌∷◌, length, take, drop, Option, Some, None, Result, Ok, Err}
+use Rattle.std.specs.Prelude.{ℕ, ◌==◌, Bool, true, not, if◌then◌else◌, List, [], ◌∷◌, length, take, drop, Option, Some, None, Result, Ok, Err}
 use Rattle.std.specs.Str.{bytes_eq}
 use Rattle.hurd_creds.specs.declared.errno.Errno.{Errno}
 use Rattle.hurd_creds.specs.declared.errno.Errno.TheVariants.{EINVAL}
@@ -7,6 +7,11 @@ use Rattle.hurd_creds.specs.declared.errno.Errno.TheVariants.{EINVAL}
 -- what a word has behind its first bytes, where these are so
 abbrev pub behind : List ℕ → List ℕ → Option (List ℕ)
 behind first word = if bytes_eq (take (length first) word) first then Some (drop (length first) word) else None
+
+-- no zero stands before other digits
+abbrev pub is_bare : List ℕ → Bool
+is_bare (b ∷ c ∷ ds) = not (b == 48)
+is_bare ds = true
 
 -- an empty text, where there are no more words
 abbrev pub no_text : List (List ℕ) → Option (List ℕ)

@@ -1,12 +1,13 @@
 -- What a kind of server does: of each call that asks about a node, what it answers and what it makes of that node.
-use Rattle.std.specs.Prelude.{ℕ, Bool, false, List, [], ◌∷◌, Option, Some, None, Result, Ok, Err}
+use Rattle.std.specs.Prelude.{ℕ, Bool, false, if◌then◌else◌, List, [], ◌∷◌, Option, Some, None, Result, Ok, Err}
 use Rattle.hurd_creds.specs.declared.name.Name.{Name}
 use Rattle.hurd_creds.specs.declared.errno.Errno.{Errno}
-use Rattle.hurd_creds.specs.declared.errno.Errno.TheVariants.{EDIED}
+use Rattle.hurd_creds.specs.declared.errno.Errno.TheVariants.{EDIED, ENOSPC}
 use Rattle.hurd_creds.specs.declared.attrs.Kind.{Kind}
 use Rattle.hurd_trans_iface.specs.declared.root.Root.{Root}
 use Rattle.hurd_trans_iface.specs.declared.root.Crossing.TheVariants.{Plain}
 use Rattle.hurd_trans_iface.specs.Nodes.{Header, Body, Node, Edit, OnHeader, OnBody, on_bytes, with_size}
+use Rattle.hurd_trans_iface.specs.Totals.{counts_for, overfills}
 
 -- a root of this kind that is no stream, and at which a lookup goes on
 abbrev pub plain_root : Kind → Root
@@ -44,6 +45,8 @@ pub record Behaviour : Type 0 where
   pub tree : Bool
   -- whether it is told how many opens read its root, and how many write it: to whom it then tells of each other
   pub counts : Bool
+  -- the most that the files of its server that entries name may have in all, by the text, if that is limited
+  pub limit : List ℕ → Option ℕ
   -- the size of a node, by the text and what is in the node
   pub size : List ℕ → Body → ℕ
   -- so many bytes from a place on, where so many opens write the node
@@ -108,7 +111,17 @@ left_by (Err e) x = x
 abbrev pub served : {T : Type 0} → Effect T → Node → Result T Errno × Node
 served e x = (told_of e, left_by e x)
 
--- the effect on a node that may not be there
-abbrev pub effect_on : {T : Type 0} → Question T → Behaviour → List ℕ → Option Node → Effect T
-effect_on q b text None = Err EDIED
-effect_on q b text (Some x) = q b text x
+-- an effect on a node of this header, but for one by which what it counts for grows past the space that there is
+abbrev pub fitting_in : {T : Type 0} → ℕ → Header → Effect T → Effect T
+fitting_in space h (Err e) = Err e
+fitting_in space h (Ok d) = if overfills (Some space) (counts_for h) (counts_for (size_left d.size h)) then Err ENOSPC else Ok d
+
+-- the same, where there may be no limit
+abbrev pub fitting : {T : Type 0} → Option ℕ → Header → Effect T → Effect T
+fitting None h e = e
+fitting (Some space) h e = fitting_in space h e
+
+-- the effect on a node that may not be there, of a server with so much space
+abbrev pub effect_on : {T : Type 0} → Question T → Behaviour → List ℕ → Option ℕ → Option Node → Effect T
+effect_on q b text space None = Err EDIED
+effect_on q b text space (Some x) = fitting space x.header (q b text x)

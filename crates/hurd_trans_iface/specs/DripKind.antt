@@ -1,21 +1,16 @@
 -- A stream of as many bytes as its word says, one for each read, after which reads fail.
-use Rattle.std.specs.Prelude.{ℕ, zero, suc, ◌==◌, ◌-◌, ◌&&◌, Bool, true, false, not, if◌then◌else◌, List, [], ◌∷◌, ◌++◌, length, nat_lt, nat_le, codes, Option, Some, None, Ok, Err}
+use Rattle.std.specs.Prelude.{ℕ, zero, suc, ◌-◌, ◌&&◌, Bool, true, false, if◌then◌else◌, List, [], ◌∷◌, ◌++◌, length, nat_lt, nat_le, codes, Option, Some, None, Ok, Err}
 use Rattle.hurd_creds.specs.declared.attrs.Kind.TheVariants.{File}
 use Rattle.hurd_creds.specs.declared.errno.Errno.TheVariants.{EFBIG, EIO, EOPNOTSUPP}
 use Rattle.hurd_creds.specs.Limits.{most_size}
 use Rattle.hurd_creds.specs.Numbers.{long_number_of}
 use Rattle.hurd_trans_iface.specs.Nodes.{Body, Content, Listing}
 use Rattle.hurd_trans_iface.specs.Behaviour.{Effect, Behaviour, only, plain_root}
-use Rattle.hurd_trans_iface.specs.Arguments.{one_word, no_options}
+use Rattle.hurd_trans_iface.specs.Arguments.{is_bare, one_word, no_options}
 
 -- the most bytes that a drip has
 abbrev pub most_drops : ℕ
 most_drops = 1000
-
--- no zero stands before other digits
-abbrev pub is_bare : List ℕ → Bool
-is_bare (b ∷ c ∷ ds) = not (b == 48)
-is_bare ds = true
 
 -- a number that is no greater than the most
 abbrev pub is_few : Option ℕ → Bool
@@ -70,6 +65,7 @@ drip = record {
   root = λ text. record (plain_root File) { is_stream = true };
   tree = false;
   counts = false;
+  limit = λ text. None;
   size = drops_left;
   read = λ text x at amount writers. dripped x.header.size amount;
   write = λ text x at bs readers. Err EOPNOTSUPP;

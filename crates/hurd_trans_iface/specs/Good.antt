@@ -32,14 +32,14 @@ IsPlain b q = (text : List ℕ) (x : Node) (e : Errno) → q b text x ≡ Err e 
 abbrev pub IsUntold : {T : Type 0} → Behaviour → Question T → Type 0
 IsUntold b q = (old new : List ℕ) (x : Node) → told_text (b.root new) new ≡ told_text (b.root old) old → q b new x ≡ q b old x
 
--- what another text leaves as it is: the server keeps no tree, its root stays what it is, and is no link, with the size that the text says, and it aims at
--- what it aimed at
+-- what another text leaves as it is: the server's root stays what it is, and is no link, and it aims at what it aimed at; where it keeps no tree, its root gets the
+-- size that the text says, and in a tree no size goes by the text
 pub record KeepsRoot (b : Behaviour) (new : List ℕ) : Type 0 where
-  pub lone : b.tree ≡ false
   pub rooted : (text : List ℕ) → b.root text ≡ b.root new
   pub no_link : is_link (b.root new).crossing ≡ false
   pub aimed : (text : List ℕ) → b.targets text ≡ b.targets new
-  pub sized : (c : Body) → b.size new c ≡ b.size new (Content [])
+  pub sized : b.tree ≡ false → (c : Body) → b.size new c ≡ b.size new (Content [])
+  pub grown : b.tree ≡ true → (text : List ℕ) (c : Body) → b.size text c ≡ b.size new c
 
 -- who is told the text: whoever knows the server where it is a link's, who reads the root where reading gives it, and nobody else
 pub record GuardsText (b : Behaviour) : Type 0 where
@@ -75,6 +75,8 @@ pub record GoodBehaviour (b : Behaviour) : Type 0 where
   -- what a kind takes that is told who reads may depend on what is in the node, and of no other kind does it
   pub write_blind : b.counts ≡ false → (text : List ℕ) (at : ℕ) (bs : List ℕ) (readers : ℕ) → IsBlindAt b text (writing at bs readers)
   pub set_size_blind : (text : List ℕ) (size : ℕ) → IsBlindAt b text (resizing size)
+  -- only a tree has a limit
+  pub unlimited : b.tree ≡ false → (text : List ℕ) → b.limit text ≡ None
   -- options without words change nothing
   pub no_words : b.set_options [] ≡ Ok None
   pub options_root : (ws : List (List ℕ)) (new : List ℕ) → b.set_options ws ≡ Ok (Some new) → KeepsRoot b new

@@ -13,6 +13,7 @@ use Rattle.hurd_trans_iface.specs.declared.root.Root.{Root}
 use Rattle.hurd_trans_iface.specs.Nodes.{Body, Content, Listing, Node, NodeMap, Edit, body_of, edit_all, is_dir, with_header, with_size}
 use Rattle.hurd_trans_iface.specs.Answers.{entry_of, make_of, make_edits, link_of, link_edits, unlink_of, unlink_edits, rename_of, rename_edits, set_header_of, header_edits, edits_if}
 use Rattle.hurd_trans_iface.specs.Behaviour.{Behaviour, Question, effect_on, told_of, edits_of}
+use Rattle.hurd_trans_iface.specs.Totals.{space_with, total_in}
 pub use Rattle.hurd_trans_iface.specs.Kinds.{ServerKind, Tmpfs, Hello, Null, Zero, Symlink, Firmlink, Union, Magic, Drip, Fifo, all_kinds, behaviour_of}
 
 -- a server: its kind, its text, the name of its root once that has one, and its own nodes
@@ -85,20 +86,33 @@ begin_root_after m root owner group mode =
 abbrev pub edited : List Edit → Meaning → Meaning
 edited es m = record m { nodes = edit_all es m.nodes }
 
+-- the most that the files of a server of this kind and text that entries name may have in all, if that is limited
+abbrev pub limit_of : ServerKind → List ℕ → Option ℕ
+limit_of k text = (behaviour_of k).limit text
+
+-- how much more they may have, if that is limited
+abbrev pub space_of : Meaning → Option ℕ
+space_of m = space_with (limit_of m.kind m.text) (total_in m.nodes)
+
 -- the answer of a call, with the server that it leaves
 
 -- of a question about a node
 abbrev pub step_of : {T : Type 0} → Question T → Name → Meaning → Result T Errno × Meaning
-step_of q n m = let e = effect_on q (behaviour_of m.kind) m.text (fin.get m.nodes n) in (told_of e, edited (edits_of n e) m)
+step_of q n m = let e = effect_on q (behaviour_of m.kind) m.text (space_of m) (fin.get m.nodes n) in (told_of e, edited (edits_of n e) m)
 
 -- the size of a node without entries, where its server has this kind and text
 abbrev pub size_of : ServerKind → List ℕ → ℕ
 size_of k text = (behaviour_of k).size text (Content [])
 
--- the server with another text, if one is given: whatever node it has gets the size that this says
+-- nodes of a server that gets another text: where it keeps no tree, each gets the size that this says
+abbrev pub resized : Bool → ℕ → NodeMap → NodeMap
+resized true k m = m
+resized false k m = map_values (with_header (with_size k)) m
+
+-- the server with another text, if one is given
 abbrev pub with_text : Option (List ℕ) → Meaning → Meaning
 with_text None m = m
-with_text (Some text) m = record m { text = text; nodes = map_values (with_header (with_size (size_of m.kind text))) m.nodes }
+with_text (Some text) m = record m { text = text; nodes = resized (keeps_tree m.kind) (size_of m.kind text) m.nodes }
 
 -- options that are taken, or refused, with the server that they leave
 abbrev pub options_taken : Result (Option (List ℕ)) Errno → Meaning → Result (Unit {0}) Errno × Meaning
@@ -116,7 +130,7 @@ make_step dir entry new m =
 -- another name for a file, which is one of the server's own
 abbrev pub link_step : Name → List ℕ → Name → Meaning → Result (Unit {0}) Errno × Meaning
 link_step dir name n m =
-    let answer = link_of (keeps_tree m.kind) name true (fin.get m.nodes dir) (fin.get m.nodes n) in (answer, edited (edits_if answer (link_edits dir name n)) m)
+    let answer = link_of (keeps_tree m.kind) (space_of m) name true (fin.get m.nodes dir) (fin.get m.nodes n) in (answer, edited (edits_if answer (link_edits dir name n)) m)
 
 -- the entry of a name goes, and what it names has one entry less that names it
 abbrev pub unlink_step : Name → List ℕ → Meaning → Result (Unit {0}) Errno × Meaning

@@ -5,13 +5,14 @@ use Rattle.hurd_trans_iface.specs.declared.begun.Begun.{Begun}
 use Rattle.hurd_trans_iface.specs.declared.begun.Begun.TheVariants as said
 use Rattle.hurd_trans_iface.specs.DripKind.{says_drops}
 use Rattle.hurd_trans_iface.specs.HelloKind.{most_text}
+use Rattle.hurd_trans_iface.specs.TmpfsKind.{most_digits}
 use Rattle.hurd_trans_iface.specs.Meaning.{Meaning, Tmpfs, Hello, Null, Zero, Symlink, Firmlink, Union, Magic, Drip, Fifo, new_server}
 use Rattle.hurd_trans_iface.specs.UnionKind.{text_of}
 use Rattle.hurd_trans_iface.specs.Words.{IsWithinLimits}
 
 -- the server that they make: its kind is the one that they name, its text is what they say to it
 abbrev pub server_said : Begun → Meaning
-server_said said.Tmpfs = new_server Tmpfs []
+server_said (said.Tmpfs digits) = new_server Tmpfs digits.now
 server_said (said.Hello text) = new_server Hello text.now
 server_said said.Null = new_server Null []
 server_said said.Zero = new_server Zero []
@@ -24,6 +25,7 @@ server_said said.Fifo = new_server Fifo []
 
 -- what they say is no more than the kind takes: within its own limits, and those of words
 abbrev pub IsFit : Begun → Type 0
+IsFit (said.Tmpfs digits) = length digits.now ≤ most_digits
 IsFit (said.Hello text) = length text.now ≤ most_text
 IsFit (said.Symlink path) = length path.now ≤ most_path
 IsFit (said.Firmlink path) = length path.now ≤ most_path

@@ -1,5 +1,5 @@
 -- Servers of one node that nothing changes.
-use Rattle.std.specs.Prelude.{ℕ, false, if◌then◌else◌, List, ◌∷◌, nat_lt, Option, Result, Ok, Err}
+use Rattle.std.specs.Prelude.{ℕ, false, if◌then◌else◌, List, ◌∷◌, nat_lt, Option, None, Result, Ok, Err}
 use Rattle.hurd_creds.specs.declared.errno.Errno.{Errno}
 use Rattle.hurd_creds.specs.declared.errno.Errno.TheVariants.{EFBIG}
 use Rattle.hurd_creds.specs.Limits.{most_size}
@@ -30,7 +30,7 @@ abbrev pub unchanged : {T : Type 0} → Result T Errno → Effect T
 unchanged (Ok told) = only told
 unchanged (Err e) = Err e
 
--- it keeps no tree, and counts nobody
+-- it keeps no tree, counts nobody, and has no limit
 abbrev pub still : StillKind → Behaviour
 still s = record {
   program = s.program;
@@ -41,6 +41,7 @@ still s = record {
   root = s.root;
   tree = false;
   counts = false;
+  limit = λ text. None;
   size = λ text b. s.size text;
   read = λ text x at amount writers. unchanged (s.gives text at amount);
   write = λ text x at bs readers. unchanged (s.takes bs);

@@ -3,14 +3,15 @@ ghost use Rattle.std.specs.List.{list_all};
 ghost use Rattle.std.specs.Option.{option_map};
 ghost use Rattle.std.specs.Prelude.{◌≡◌, ◌∷◌, ℕ, List, Some, Ok, IfSome, codes, is_some};
 ghost use Rattle.hurd_trans_iface.specs.Sayings.{IsFit, server_said};
-ghost use Rattle.hurd_trans_iface.specs.HelloKind.{behind, hello_text};
-ghost use Rattle.hurd_trans_iface.specs.Meaning.{Meaning, ServerKind, Hello, Symlink, Firmlink, Union, Magic, Drip, behaviour_of, begin, begin_as, new_server, options_of};
+ghost use Rattle.hurd_trans_iface.specs.Arguments.{behind, is_bare, no_text};
+ghost use Rattle.hurd_trans_iface.specs.HelloKind.{hello_text};
+ghost use Rattle.hurd_trans_iface.specs.Meaning.{Meaning, ServerKind, Tmpfs, Hello, Symlink, Firmlink, Union, Magic, Drip, behaviour_of, begin, begin_as, new_server, options_of};
 ghost use Rattle.hurd_trans_iface.specs.SymlinkKind.{target_text};
 ghost use Rattle.hurd_trans_iface.specs.FirmlinkKind.{firm_text, is_firm};
 ghost use Rattle.hurd_trans_iface.specs.UnionKind.{union_text};
 ghost use Rattle.hurd_trans_iface.specs.MagicKind.{magic_text};
-ghost use Rattle.hurd_trans_iface.specs.DripKind.{drip_text, is_bare, says_drops};
-ghost use Rattle.hurd_trans_iface.specs.TmpfsKind.{no_text};
+ghost use Rattle.hurd_trans_iface.specs.DripKind.{drip_text, says_drops};
+ghost use Rattle.hurd_trans_iface.specs.TmpfsKind.{says_size, size_word, tmpfs_text};
 ghost use Rattle.hurd_trans_iface.specs.Words.{IsWithinLimits};
 
 use hurd_creds::{Bytes, MOST_PATH, long_number};
@@ -24,11 +25,14 @@ const MOST_DROPS: u64 = 1000;
 /// The most digits that say how many those are.
 const MOST_DROP_DIGITS: usize = 4;
 
+/// The most digits that say a size.
+const MOST_SIZE_DIGITS: usize = 12;
+
 /// The kind of server that some words make, with what they say to it, lent.
 #[derive(Clone, Copy, Debug)]
 pub enum Begun<'a> {
-    /// A tree in memory: `/hurd/tmpfs` alone.
-    Tmpfs,
+    /// A tree in memory, with these digits as its limit, or none: `/hurd/tmpfs`, alone or with one word `--size=` and a number behind it.
+    Tmpfs(&'a [u8]),
     /// A file that gives this text: `/hurd/hello`, alone or with one word `--contents=` and the text behind it.
     Hello(&'a [u8]),
     /// A stream without bytes: `/hurd/null` alone.
@@ -59,11 +63,46 @@ fn alone<'a>(kind: Begun<'a>, arguments: &[Bytes]) -> Option<Begun<'a>>
     }
 }
 
+/// What stands behind these bytes in a word, if it begins with them.
+fn behind<'a>(first: &[u8], word: &'a [u8]) -> Option<&'a [u8]>
+    ensures { option_map (λ rest. rest.now) result ≡ behind first.now word.now }
+{
+    word.strip_prefix(first)
+}
+
 /// What stands behind `--contents=` in a word, if it begins so.
 pub fn contents_in(word: &[u8]) -> Option<&[u8]>
     ensures { option_map (λ text. text.now) result ≡ behind (codes "--contents=") word.now }
 {
-    word.strip_prefix(b"--contents=".as_slice())
+    behind(b"--contents=", word)
+}
+
+/// Whether digits say a size: one to twelve, the first no zero but where it is alone.
+fn says_size(digits: &[u8]) -> bool
+    ensures { result ≡ says_size digits.now }
+{
+    digits.len() <= MOST_SIZE_DIGITS && is_bare(digits) && long_number(digits).is_some()
+}
+
+/// The digits behind `--size=` in a word, if it says a size: 0 to 999,999,999,999, with no zero in front.
+pub fn size_in(word: &[u8]) -> Option<&[u8]>
+    ensures { option_map (λ digits. digits.now) result ≡ size_word word.now }
+{
+    match behind(b"--size=", word) {
+        Some(digits) if says_size(digits) => Some(digits),
+        _ => None,
+    }
+}
+
+/// What the words behind `/hurd/tmpfs` say: nothing, or one `--size=` with a number behind it.
+fn tree(arguments: &[Bytes]) -> Option<Begun<'_>>
+    ensures { option_map server_said result ≡ option_map (new_server Tmpfs) (tmpfs_text arguments.now) }
+{
+    match arguments {
+        [] => Some(Begun::Tmpfs(&[])),
+        [word] => Some(Begun::Tmpfs(size_in(word.as_slice())?)),
+        _ => None,
+    }
 }
 
 /// What the words behind `/hurd/hello` say: nothing, or one `--contents=` with a text behind it.
@@ -180,7 +219,7 @@ fn named<'a>(program: &Bytes, arguments: &'a [Bytes]) -> Option<Begun<'a>>
     ensures { option_map server_said result ≡ begin (program.now ∷ arguments.now) }
 {
     if program.is(b"/hurd/tmpfs") {
-        alone(Begun::Tmpfs, arguments)
+        tree(arguments)
     } else if program.is(b"/hurd/hello") {
         hello(arguments)
     } else if program.is(b"/hurd/null") {

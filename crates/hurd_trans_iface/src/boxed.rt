@@ -135,6 +135,14 @@ impl Server for Box<dyn Server> {
         (**self).counts()
     }
 
+    fn space(&self) -> Option<u64> {
+        (**self).space()
+    }
+
+    fn total(&self) -> u128 {
+        (**self).total()
+    }
+
     fn goaway(&mut self) {
         (**self).goaway()
     }

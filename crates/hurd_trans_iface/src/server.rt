@@ -6,7 +6,8 @@ ghost use Rattle.hurd_creds.specs.Memory.{Meets, Steps};
 ghost use Rattle.hurd_trans_iface.specs.Nodes.{AllListed, Reaches, attrs_of, body_of, content_of, passive_of};
 ghost use Rattle.hurd_trans_iface.specs.Answers.{entry_of, names_of, make_of, link_of, rename_of};
 ghost use Rattle.hurd_trans_iface.specs.Behaviour.{reading, writing, resizing};
-ghost use Rattle.hurd_trans_iface.specs.Meaning.{Meaning, root_of, options_of, targets_of, begin_root_after, step_of, set_options_step, make_step, link_step, unlink_step, rename_step, edit_header_step, forget_after, readable_of, counts_opens, keeps_tree};
+ghost use Rattle.hurd_trans_iface.specs.Meaning.{Meaning, root_of, options_of, targets_of, begin_root_after, step_of, set_options_step, make_step, link_step, unlink_step, rename_step, edit_header_step, forget_after, readable_of, counts_opens, keeps_tree, space_of};
+ghost use Rattle.hurd_trans_iface.specs.Totals.{total_in};
 
 use crate::header_edit::HeaderEdit;
 use crate::names::Names;
@@ -86,7 +87,7 @@ pub trait Server: Drop {
     /// Puts bytes into a file at `at`, where so many opens read it, and answers how many; a gap becomes zero bytes, no data grows nothing. Takes no memory where
     /// there is no data, where the file has the bytes that are written over, and in a stream.
     ///
-    /// Errors, in order: `EDIED` no such node, `EBADF` a directory, `EFBIG` an end past 16,777,216, of a pipe `EPIPE` and `EWOULDBLOCK`, `ENOMEM`.
+    /// Errors, in order: `EDIED` no such node, `EBADF` a directory, `EFBIG` an end past 16,777,216, of a pipe `EPIPE` and `EWOULDBLOCK`, `ENOSPC` a file that would grow past the limit of its tree, `ENOMEM`.
     fn write(&mut self, node: NodeName, at: u64, bytes: &[u8], readers: u128) -> Result<u64, Errno>
         ensures steps { Steps (meaning self.old) (step_of (writing at bytes.now readers) node (meaning self.old)) result (meaning self.new) }
         ensures within { Reaches (body_of (meaning self.old).nodes node) (at + length bytes.now) → result ≡ (step_of (writing at bytes.now readers) node (meaning self.old)).0 }
@@ -95,7 +96,7 @@ pub trait Server: Drop {
 
     /// Cuts a file, or grows it by zero bytes. A cut takes no memory, nor does a stream.
     ///
-    /// Errors, in order: `EDIED` no such node, `EFBIG` a size past 16,777,216, `EBADF` a directory, `ENOMEM`.
+    /// Errors, in order: `EDIED` no such node, `EFBIG` a size past 16,777,216, `EBADF` a directory, `ENOSPC` a file that would grow past the limit of its tree, `ENOMEM`.
     fn set_size(&mut self, node: NodeName, size: u64) -> Result<(), Errno>
         ensures steps { Steps (meaning self.old) (step_of (resizing size) node (meaning self.old)) result (meaning self.new) }
         ensures cut { Reaches (body_of (meaning self.old).nodes node) size → result ≡ (step_of (resizing size) node (meaning self.old)).0 }
@@ -132,7 +133,7 @@ pub trait Server: Drop {
         name: &[u8],
         node: NodeName,
     ) -> Result<(), Errno>
-        requires { let m = meaning self.old in link_of (keeps_tree m.kind) name.now true (fin.get m.nodes dir) (fin.get m.nodes node) ≡ Ok tt }
+        requires { let m = meaning self.old in link_of (keeps_tree m.kind) (space_of m) name.now true (fin.get m.nodes dir) (fin.get m.nodes node) ≡ Ok tt }
         ensures { Steps (meaning self.old) (link_step dir name.now node (meaning self.old)) result (meaning self.new) };
 
     /// Takes the first entry of a name out of a directory: of what it names, a directory loses its parent, and any other node a link. Whether that is a directory, and
@@ -181,6 +182,14 @@ pub trait Server: Drop {
     /// Whether `read` and `write` go by how many opens write and read the node: of any other server they are asked with none. Takes no memory.
     fn counts(&self) -> bool
         ensures { result ≡ counts_opens (meaning self.now).kind };
+
+    /// How much more the server's files that entries name may have in all, if that is limited. Takes no memory.
+    fn space(&self) -> Option<u64>
+        ensures { result ≡ space_of (meaning self.now) };
+
+    /// What those files have in all, of a server that keeps a tree. Takes no memory.
+    fn total(&self) -> u128
+        ensures { keeps_tree (meaning self.now).kind ≡ true → result ≡ total_in (meaning self.now).nodes };
 
     /// The server is about to be sent away (`fsys_goaway`, `fsys.defs`). Takes no memory.
     fn goaway(&mut self)
