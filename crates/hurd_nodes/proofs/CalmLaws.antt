@@ -21,7 +21,7 @@ use Rattle.hurd_trans_iface.specs.declared.header_edit.HeaderEdit.TheVariants.{S
 use Rattle.hurd_trans_iface.specs.Nodes.{AddNode, Edit, Header, Node, NodeMap, OnBody, OnHeader, edit_all, is_entered, is_entered_at, is_listed, linked, with_body, with_header, with_size}
 use Rattle.hurd_trans_iface.specs.Answers.{edits_if, header_edits, link_edits}
 use Rattle.hurd_trans_iface.specs.Behaviour.{Effect, Question, edit_bytes, edit_size, edits_of, effect_on}
-use Rattle.hurd_trans_iface.specs.Meaning.{Meaning, begin_root_after, behaviour_of, edited, forget_after, new_root, options_taken, set_options_step, size_of, step_of}
+use Rattle.hurd_trans_iface.specs.Meaning.{Meaning, begin_root_after, behaviour_of, edited, forget_after, keeps_tree, new_root, options_taken, resized, set_options_step, size_of, space_of, step_of}
 use Rattle.hurd_nodes.specs.declared.seat.Seat.{Seat}
 use Rattle.hurd_nodes.specs.Quiet.{AreCalm, Behind, IsCalm}
 use Rattle.hurd_nodes.proofs.SeatedLaws.{value_got}
@@ -88,7 +88,7 @@ asked-keep n (Ok d) = by d.bytes
     by (Some g) = sized d.size
 
 pub keeps-asked : {T : Type 0} (q : Question T) (n : Name) (m k : Meaning) (got : Result T Errno) → Steps m (step_of q n m) got k → KeepsEntries m k
-keeps-asked q n m k got steps = let e = effect_on q (behaviour_of m.kind) m.text (fin.get m.nodes n) in keeps-or (lacks_memory got) m k (edits_of n e) (asked-keep n e) steps.left
+keeps-asked q n m k got steps = let e = effect_on q (behaviour_of m.kind) m.text (space_of m) (fin.get m.nodes n) in keeps-or (lacks_memory got) m k (edits_of n e) (asked-keep n e) steps.left
 
 -- nor does another header by one of the edits that there are
 header-keeps : (n : Name) (e : HeaderEdit) → KeepAll (header_edits n e)
@@ -109,8 +109,9 @@ keeps-link dir name n m k answer got steps =
     keeps-or (lacks_memory got) m k (edits_if answer (link_edits dir name n)) (keep-if answer _ (linked-keeps, tt)) steps.left
 
 -- nor other options
-retexted-keeps : (k : ℕ) (m : NodeMap) (n : Name) → is_entered_at (fin.get (map_values (with_header (with_size k)) m) n) ≡ false → is_entered_at (fin.get m n) ≡ false
-retexted-keeps k m n bare = by (fin.get m n) (sym (ap is_entered_at (get-map_values (with_header (with_size k)) m n)) ∙ bare)
+retexted-keeps : (tree : Bool) (k : ℕ) (m : NodeMap) (n : Name) → is_entered_at (fin.get (resized tree k m) n) ≡ false → is_entered_at (fin.get m n) ≡ false
+retexted-keeps true k m n bare = bare
+retexted-keeps false k m n bare = by (fin.get m n) (sym (ap is_entered_at (get-map_values (with_header (with_size k)) m n)) ∙ bare)
   where
     by : (o : Option Node) → is_entered_at (option_map (with_header (with_size k)) o) ≡ false → is_entered_at o ≡ false
     by None h = h
@@ -118,7 +119,7 @@ retexted-keeps k m n bare = by (fin.get m n) (sym (ap is_entered_at (get-map_val
 
 taken-keeps : (r : Result (Option (List ℕ)) Errno) (m : Meaning) → KeepsEntries m (options_taken r m).1
 taken-keeps (Ok None) m n bare = bare
-taken-keeps (Ok (Some text)) m n bare = retexted-keeps (size_of m.kind text) m.nodes n bare
+taken-keeps (Ok (Some text)) m n bare = retexted-keeps (keeps_tree m.kind) (size_of m.kind text) m.nodes n bare
 taken-keeps (Err e) m n bare = bare
 
 pub keeps-options : (ws : List (List ℕ)) (m k : Meaning) (got : Result (Unit {0}) Errno) → Steps m (set_options_step ws m) got k → KeepsEntries m k

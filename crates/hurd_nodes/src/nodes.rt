@@ -1,11 +1,12 @@
 //! Nodes and their servers.
-ghost use Rattle.std.specs.Prelude.{◌≡◌, option_copied, IfOk, IfErr};
+ghost use Rattle.std.specs.Prelude.{◌≡◌, is_some, option_copied, IfOk, IfErr};
 ghost use Rattle.std.specs.Option.{option_map};
 ghost use Rattle.std.specs.FinMap as fin;
 ghost use Rattle.hurd_creds.specs.Memory.{Meets};
 ghost use Rattle.hurd_trans_iface.specs.Nodes.{attrs_of, header_of, body_of, content_of, passive_of};
 ghost use Rattle.hurd_trans_iface.specs.Answers.{entry_of, names_of};
-ghost use Rattle.hurd_nodes.specs.Shown.{ServerInfo, server_of, shown, state_of, header_in, told_header, booted, is_root, are_kin, options_in, readable_at, tree_by, HideNothing};
+ghost use Rattle.hurd_nodes.specs.Shown.{ServerInfo, server_of, shown, state_of, header_in, told_header, booted, is_root, are_kin, limit_by, options_in, readable_at, tree_by, HideNothing};
+ghost use Rattle.hurd_nodes.specs.Totals.{total_of};
 ghost use Rattle.hurd_trans_iface.specs.Meaning.{Begins, root_of};
 ghost use Rattle.hurd_trans_iface.specs.Texts.{told_text};
 ghost use Rattle.hurd_nodes.specs.Needs.{counts_by};
@@ -13,7 +14,7 @@ ghost use Rattle.hurd_nodes.specs.Settle.{AreServed};
 ghost use Rattle.hurd_nodes.specs.Held.{active_in, box_by, home_in, mean};
 
 use crate::aims::Aims;
-use crate::asking::{has_tree, told_text};
+use crate::asking::{has_tree, told_text, total_in};
 use crate::forgetting::are_kin;
 use crate::search::{home_of, place_of_seat, place_of_server, put_seat, put_site};
 use crate::seat::{Seat, Seats, Sites};
@@ -166,13 +167,34 @@ impl<S: Server> Nodes<S> {
         }
     }
 
-    /// The text of a server that whoever knows it is told, a link's alone, lent, if the server is there. Takes no memory.
+    /// The text of a server that whoever knows it is told, a link's or a tree's, lent, if the server is there. Takes no memory.
     #[tactic(auto, using(crate::proofs::StayLaws::by_place))]
     pub fn told_text_of(&self, server: ServerName) -> Option<&[u8]>
         ensures { option_copied result ≡ option_map (λ (i : ServerInfo). told_text (root_of i.kind i.text) i.text) (fin.get (shown S.meaning self.now).servers server) }
     {
         match place_of_seat(&self.seats, server) {
             Some(i) => Some(told_text(&self.seats[i].server)),
+            None => None,
+        }
+    }
+
+    /// Whether what the files of a server that entries name may have in all is limited; not, if the server isn't there. Takes no memory.
+    #[tactic(auto, using(crate::proofs::StayLaws::by_place))]
+    pub fn has_limit(&self, server: ServerName) -> bool
+        ensures { result ≡ is_some (limit_by (fin.get (shown S.meaning self.now).servers server)) }
+    {
+        match place_of_seat(&self.seats, server) {
+            Some(i) => self.seats[i].server.space().is_some(),
+            None => false,
+        }
+    }
+
+    /// What those files have in all, if the server is there and keeps a tree. Takes no memory.
+    pub fn total_of(&self, server: ServerName) -> Option<u128>
+        ensures { result ≡ total_of (shown S.meaning self.now) server }
+    {
+        match place_of_seat(&self.seats, server) {
+            Some(i) => total_in(&self.seats[i].server),
             None => None,
         }
     }

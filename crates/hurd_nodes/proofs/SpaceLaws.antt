@@ -1,0 +1,62 @@
+-- The space that a box says it has is what is shown of it, since it hides nothing: what is shown of a server's nodes is all that its box has.
+use Rattle.std.proofs.Common.{◌≡◌, ℕ, Bool, true, false, cond, refl, sym, ap, ◌∙◌, true≢false}
+use Rattle.std.specs.Prelude.{Option, Some, None, is_some}
+use Rattle.std.specs.Option.{option_map}
+use Rattle.std.specs.FinMap as fin
+use Rattle.hurd_creds.specs.declared.name.Name.{Name}
+use Rattle.hurd_creds.specs.NameMaps.{NameMap}
+use Rattle.hurd_creds.proofs.NameLaws.{equal_if_same, same_map_by, same_name-itself}
+use Rattle.hurd_creds.proofs.Retained.{get-retained}
+use Rattle.hurd_trans_iface.specs.Nodes.{Node}
+use Rattle.hurd_trans_iface.specs.Meaning.{Meaning, limit_of, space_of}
+use Rattle.hurd_trans_iface.specs.Totals.{space_with, total_in}
+use Rattle.hurd_nodes.specs.declared.seat.Site.{Site}
+use Rattle.hurd_nodes.specs.Held.{Held, Seated, box_by, home_in, is_home, mean}
+use Rattle.hurd_nodes.specs.Shown.{HideNothing, ServerInfo, flat, info_of, limit_by, node_in, nodes_in, nodes_of, shown, space_at, space_for, tree_by}
+use Rattle.hurd_nodes.specs.Totals.{total_if, total_of}
+use Rattle.hurd_nodes.proofs.HideLaws.{TellsAll, has}
+use Rattle.hurd_nodes.proofs.ShownLaws.{get-nodes, get-servers}
+
+-- a node's home is the server whose home it is
+home_is : (s : Name) (o : Option Name) → is_home s o ≡ true → o ≡ Some s
+home_is s None h = absurd (true≢false (sym h))
+home_is s (Some q) h = ap (λ (p : Name). let r : Option Name = Some p in r) (sym (equal_if_same s q h))
+
+module _ (sites : NameMap Site) (seats : NameMap (Seated Meaning)) (tells : TellsAll sites seats) where
+  module _ (s : Name) (e : Seated Meaning) (is : fin.get seats s ≡ Some e) where
+    abbrev mine : Name → Bool
+    mine n = is_home s (home_in sites n)
+
+    -- of a node of another server the box has none
+    not_other : (n : Name) → mine n ≡ false → (o : Option Node) → fin.get e.server.nodes n ≡ o → None ≡ o
+    not_other n other None held = refl
+    not_other n other (Some x) held =
+        let home = tells s n e is (ap (λ (p : Option Node). is_some p) held) in
+        absurd (true≢false (sym (ap (is_home s) home ∙ same_name-itself s) ∙ other))
+
+    there : (n : Name) → mine n ≡ true → fin.get (nodes_of sites seats) n ≡ fin.get e.server.nodes n
+    there n ours =
+        get-nodes sites seats n ∙ ap (λ o. node_in n (box_by seats o)) (home_is s (home_in sites n) ours)
+        ∙ ap (λ (o : Option (Seated Meaning)). node_in n (option_map (λ (k : Seated Meaning). k.server) o)) is
+
+    kept_or : (n : Name) (b : Bool) → mine n ≡ b → cond b (fin.get (nodes_of sites seats) n) None ≡ fin.get e.server.nodes n
+    kept_or n true ours = there n ours
+    kept_or n false other = not_other n other (fin.get e.server.nodes n) refl
+
+    pub own-shown : nodes_in (nodes_of sites seats) sites s ≡ e.server.nodes
+    own-shown = same_map_by _ _ (λ n. get-retained (nodes_of sites seats) mine n ∙ kept_or n (mine n) refl)
+
+    space-seat : space_for (flat sites seats) (Some s) ≡ space_of e.server
+    space-seat = rw (get-servers seats s, is, own-shown) refl
+
+  space-by : (m : Meaning) (o : Option Name) → Some m ≡ box_by seats o → space_for (flat sites seats) o ≡ space_of m
+  space-by m None box = absurd (cc)
+  space-by m (Some s) box = go (fin.get seats s) refl box
+    where
+      go : (p : Option (Seated Meaning)) → fin.get seats s ≡ p → Some m ≡ option_map (λ (k : Seated Meaning). k.server) p → space_for (flat sites seats) (Some s) ≡ space_of m
+      go None is at = absurd (cc)
+      go (Some e) is at = let same : e.server ≡ m = cc in space-seat s e is ∙ ap space_of same
+
+  -- the space of a node's server is that of its box
+  pub space-told : (m : Meaning) (n : Name) → Some m ≡ box_by seats (home_in sites n) → space_at (flat sites seats) n ≡ space_of m
+  space-told m n box = space-by m (home_in sites n) box
