@@ -1,7 +1,7 @@
 -- The changes that a task of S may make: each keeps a world inside what S saw.
 use Rattle.std.proofs.Common.{◌≡◌, ◌≢◌, ◌⊎◌, ℕ, ◌<◌, ◌≤◌, Bool, true, List, [], Option, Some, None, sym, refl, ◌∙◌, ◌||◌, ◌&&◌, ap, ap₂, subst, inl, inr, arith}
 use Rattle.std.specs.Option.{option_map}
-use Rattle.hurd_machine.proofs.Common.{Attach, Body, BodyOf, Change, Coherent, Content, Control, DropServer, EditBody, EditHeader, EditOpen, EditTask, HasUid, Header, Holds, Io, IoRight, IsAmong, LetGo, Listing, MakeNode, MakeOpen, Name, Node, Opened, OpenOf, OptionsOf, Right, SeesBody, Send, ServerInfo, SetText, Settle, Start, Taken, Task, Unseat, World, active_at, apply, body_at, counts_at, edit, edit_task, entry_in, entry_of, get, header_at, home_at, is_other, new_site, open_at, rights_of, server_at, task_at, tells, with_body, with_header, with_sent, with_text}
+use Rattle.hurd_machine.proofs.Common.{Attach, Body, BodyOf, Change, Coherent, Content, Control, DropServer, EditBody, EditHeader, EditOpen, EditTask, HasUid, Header, Holds, Io, IoRight, IsAmong, LetGo, Listing, MakeNode, MakeOpen, Name, Node, Opened, OpenOf, OptionsOf, Right, SeesBody, Send, ServerInfo, SetText, Settle, Start, Taken, Task, Unseat, World, active_at, apply, body_at, counts_at, edit, edit_task, entry_in, entry_of, get, header_at, home_at, is_other, new_site, open_at, rights_of, server_at, task_at, tells, with_body, with_header, with_sent, with_text, counts_for}
 use Rattle.hurd_machine.proofs.Sites.{active_out_was, active_put}
 use Rattle.hurd_nodes.proofs.Sites.{home-inserted, home-edited, home-was}
 use Rattle.hurd_creds.proofs.NameLaws.{same_or_apart, get_here, get_apart, edit_apart}
@@ -57,9 +57,13 @@ gained_may S v x r a z ids gains m = (among (RightMay S v x) m.0, elim m.1 [ inl
     among : (B : Right → Type 0) → B r → (q : Right) → IsAmong q (rights_of z) → IsAmong q (rights_of a) ⊎ B q
     among B b q h = elim (gains q h) [ inl old ↦ inl old | inr e ↦ inr (subst B e b) ]
 
+-- a header function that leaves what a node counts for
+abbrev pub KeepsCount : (Header → Header) → Type 0
+KeepsCount f = (h : Header) → counts_for (f h) ≡ counts_for h
+
 -- what S saw, its ids among it, is of the world v before the call; what stands is of the world x, in which the change is made
 abbrev pub May : (ℕ → Bool) → World → World → Change → Type 0
-May S v x (EditHeader n f) = (h : Header) → header_at x n ≡ Some h → Less S v n (f h) h
+May S v x (EditHeader n f) = ((h : Header) → header_at x n ≡ Some h → Less S v n (f h) h) × (KeepsCount f ⊎ SeenOrNew S v n)
 May S v x (EditBody n g) =
     (ByEmptiness g ⊎ Known S v (BodyOf n)) × ((b : Body) (name : List ℕ) (m : Name) → body_at x n ≡ Some b → entry_of name (Some (g b)) ≡ Some m → (entry_of name (Some b) ≡ Some m) ⊎ SeenOrNew S v m)
 May S v x (MakeNode n s node) = (S n.task.0 ≡ true) × Known S v (OptionsOf s) × ((p : Name) → node.header.parent ≡ Some p → SeenOrNew S v p)
@@ -225,7 +229,7 @@ module _ (S : ℕ → Bool) (v x : World) (coherent : Coherent x) (i : Inside S 
   headers_next (EditHeader k f) ex p m n h e = elim (same_or_apart n k) [
     | inl s ↦
         let l = edited_from f (header_at x k) h (sym (edit_reads header_in (option_map f) (with_header f) (header-with_header f) x.nodes k) ∙ rw s at e) in
-        inl (l.0, rw s l.1, subst (λ (z : Header). Less S v n z l.0) l.2 (rw s (m l.0 l.1)))
+        inl (l.0, rw s l.1, subst (λ (z : Header). Less S v n z l.0) l.2 (rw s (m.0 l.0 l.1)))
     | inr a ↦ inl (h, sym (ap header_in (edit_apart x.nodes k (with_header f) n a)) ∙ e, Less-refl S v n h)
   ]
   headers_next (EditBody k g) ex p m n h e = inl (h, sym (edit_keeps header_in (with_body g) (header-with_body g) x.nodes k n) ∙ e, Less-refl S v n h)

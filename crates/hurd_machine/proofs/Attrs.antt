@@ -1,5 +1,5 @@
 -- Owner, group and mode of a node set, as a piece of any call.
-use Rattle.std.proofs.Common.{◌≡◌, ◌⊎◌, ℕ, Bool, true, List, [], ◌∷◌, Some, refl, subst, inl}
+use Rattle.std.proofs.Common.{◌≡◌, ◌⊎◌, ℕ, Bool, true, List, [], ◌∷◌, Some, refl, subst, inl, inr}
 use Rattle.hurd_machine.proofs.Common.{AttrOf, Change, EditHeader, HasUid, Header, Mode, Name, Owns, OwnsIt, Part, Sound, World, header_at}
 use Rattle.hurd_trans_iface.specs.Nodes.{with_attrs}
 use Rattle.hurd_machine.proofs.Confine.{Less}
@@ -16,6 +16,6 @@ module _ (n : Name) (owner group : ℕ) (mode : Mode) where
 
   pub attrs_whole : {t : ℕ} {T : Part → Type 0} {w : World} → Sound w → T (AttrOf n) → (h : Header) → header_at w n ≡ Some h → ((S : ℕ → Bool) → S t ≡ true → OwnsIt S w h) → Whole t T w w set_attrs
   attrs_whole {t} {T} {w} s attr h at owns =
-      quiet set_attrs (λ k e. e, tt) s (of_header n (with_attrs owner group mode) (λ k. (refl, refl, refl)) (λ k. refl) (keeps_header w n (with_attrs owner group mode) (λ k. (refl, refl))) (stands s) attr (λ S ours.
+      quiet set_attrs (λ k e. e, tt) s (of_header n (with_attrs owner group mode) (λ k. (refl, refl, refl)) (λ k. refl) (keeps_header w n (with_attrs owner group mode) (λ k. (refl, refl))) (stands s) attr (inr (inl (λ k there. refl))) (λ S ours.
       let o = owns S ours in
-      (λ k there. let same : h ≡ k = cc (at, there) in subst (λ (z : Header). Less S w n (with_attrs owner group mode z) z) same (owned_less S w o.0 h o.1 o.2), tt)))
+      ((λ k there. let same : h ≡ k = cc (at, there) in subst (λ (z : Header). Less S w n (with_attrs owner group mode z) z) same (owned_less S w o.0 h o.1 o.2), inl (λ k. refl)), tt)))

@@ -1,7 +1,7 @@
 -- What is shown of a call, and the laws of one step that follow from it.
 use Rattle.std.proofs.Common.{◌≡◌, ◌≢◌, ℕ, Bool, true, false, Option, Some, None, refl, sym, ◌∙◌, ap, subst, inl, inr, true≢false}
 use Rattle.std.specs.Prelude.{Result, Ok, Err}
-use Rattle.hurd_machine.proofs.Common.{AttrOf, Below, BodyOf, Coherent, Control, EmptyOf, Errno, Knows, Meaning, Name, Nothing, OfControl, OfNode, OfSeat, OpenOf, OptionsOf, Part, Plan, Reply, SameView, Seen, Sees, Sound, Task, TaskOf, TextOf, UsersOf, World, after_plan, answered, asked_parts, handing_back, is_refused, looks, task_at, EndsOf}
+use Rattle.hurd_machine.proofs.Common.{AttrOf, Below, BodyOf, Coherent, Control, EmptyOf, Errno, Knows, Meaning, Name, Nothing, OfControl, OfNode, OfSeat, OpenOf, OptionsOf, Part, Plan, Reply, SameView, Seen, Sees, Sound, Task, TaskOf, TextOf, UsersOf, World, after_plan, answered, asked_parts, handing_back, is_refused, looks, task_at, EndsOf, TotalOf}
 use Rattle.hurd_machine.specs.declared.call.Reply.TheVariants.{Refused}
 use Rattle.hurd_machine.specs.Plan.{returning}
 use Rattle.hurd_machine.proofs.Coherence.{AllProper, right_old, home_server}
@@ -75,6 +75,7 @@ sees_named S w c (OpenOf o) sees new = new (subst (Below w) sees.2 (right_old c 
 sees_named S w c (OptionsOf s) sees new = new (known_named S w c s sees)
 sees_named S w c (TextOf s) sees new = new (c.given.servers s sees.0 sees.1)
 sees_named S w c (UsersOf s) sees new = new (c.given.servers s sees.info sees.is_server)
+sees_named S w c (TotalOf s) sees new = new (c.given.servers s sees.info sees.is_server)
 sees_named S w c (TaskOf t) sees new = new
 
 -- the laws of one step

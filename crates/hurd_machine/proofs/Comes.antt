@@ -60,7 +60,7 @@ module _ (w : World) (c : Coherent w) (s at : Name) (i : ServerInfo) (node : Nod
       let one = p.count in
       absurd (omega arith)
 
-  no_root : get w.nodes i.root ≡ None
+  pub no_root : get w.nodes i.root ≡ None
   no_root = no_node c i.root root_new
 
   pub come_home : (n : Name) → n ≢ i.root → home_at y n ≡ home_at w n

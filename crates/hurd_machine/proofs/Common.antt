@@ -58,9 +58,12 @@ pub use Rattle.hurd_machine.specs.Change.{Attach, Change, DropServer, EditBody, 
 pub use Rattle.hurd_machine.specs.Handle.{Named, any_mode, both_asks, handle_asks, port_asks}
 pub use Rattle.hurd_machine.specs.Plan.{Plan, Planned, after_plan, handing_back, is_refused, looks, refuse, told}
 unfoldable pub use Rattle.hurd_machine.specs.Plan.{answered, first, given, on}
-pub use Rattle.hurd_machine.specs.Sight.{AText, ABody, AnEnds, EndsOf, SeesInside, ATask, AUsers, InRoot, SeesText, TextOf, ToControl, faced, known_text, Active, Allowed, AnAttr, AnEmpty, AnOpen, AnOptions, AttrOf, BodyOf, ByBody, ByControl, ByNode, ByParent, BySeat, Child, Could, CouldServe, EmptyOf, GidOfRight, GidOfTask, HasGid, HasUid, Holds, IsGone, IsOpen, Knows, MaySend, OfControl, OfNode, OfSeat, OpenOf, OptionsOf, Owns, OwnsIt, Part, Pending, SameView, Seen, Sees, SeesBody, SeesEmpty, Sends, ServerRoot, Taken, Target, TaskOf, ToPut, ToRead, ToSearch, UidOfRight, UidOfTask, UsersOf, Way, bare, holders, is_on, part, tells, users, uses_server}
+pub use Rattle.hurd_machine.specs.Sight.{AText, ABody, AnEnds, EndsOf, SeesInside, ATask, AUsers, InRoot, SeesText, TextOf, ToControl, faced, known_text, Active, Allowed, AnAttr, AnEmpty, AnOpen, AnOptions, AttrOf, BodyOf, ByBody, ByControl, ByNode, ByParent, BySeat, Child, Could, CouldServe, EmptyOf, GidOfRight, GidOfTask, HasGid, HasUid, Holds, IsGone, IsOpen, Knows, MaySend, OfControl, OfNode, OfSeat, OpenOf, OptionsOf, Owns, OwnsIt, Part, Pending, SameView, Seen, Sees, SeesBody, SeesEmpty, Sends, ServerRoot, Taken, Target, TaskOf, ToPut, ToRead, ToSearch, UidOfRight, UidOfTask, UsersOf, Way, bare, holders, is_on, part, tells, users, uses_server, ATotal, TotalOf, SeesTotal}
 pub use Rattle.hurd_machine.specs.Sound.{Above, AreDistinct, AreFilled, AreSeated, AreTables, AtRest, AtRoot, Below, CanBeAt, CanBeWritten, Coherent, Hangs, HasDistinctNames, IsFilled, IsGivenRight, LeadsUp, Linked, Sound, times_in}
 unfoldable pub use Rattle.hurd_machine.specs.Sound.{times_listed}
 pub use Rattle.hurd_machine.specs.Touched.{Nothing, OnDid, OnDrop, OnRight}
 unfoldable pub use Rattle.hurd_machine.specs.Touched.{asked_parts}
-pub use Rattle.hurd_machine.specs.World.{IsAmong, World, active_at, asked_at, body_at, boot_root, counts_at, ends_at, gives_text, header_at, home_at, info_at, is_of, is_removed, is_server_root, leads_on, links_at, lists, lists_at, makes_at, node_at, only_reads, open_at, ports_of, renames_at, server_at, sets_attrs_at, shape_at, shape_by, site_at, stream_at, targets_at, targets_in, task_at, words_at, words_in, world_from}
+pub use Rattle.hurd_machine.specs.World.{IsAmong, World, active_at, asked_at, body_at, boot_root, counts_at, ends_at, gives_text, header_at, home_at, info_at, is_of, is_removed, is_server_root, leads_on, links_at, lists, lists_at, makes_at, node_at, only_reads, open_at, ports_of, renames_at, server_at, sets_attrs_at, shape_at, shape_by, site_at, stream_at, targets_at, targets_in, task_at, words_at, words_in, world_from, total_at}
+pub use Rattle.hurd_trans_iface.specs.Totals.{counts_for}
+unfoldable pub use Rattle.hurd_trans_iface.specs.Totals.{total_in}
+pub use Rattle.hurd_nodes.specs.Totals.{nodes_in, total_if, total_of}

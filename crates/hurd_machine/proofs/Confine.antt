@@ -1,6 +1,6 @@
 -- What S sees in a world that stays inside what it saw: parts that it saw, and new things of its own tasks.
 use Rattle.std.proofs.Common.{true≢false, ◌≡◌, ◌⊎◌, ℕ, ◌≤◌, Bool, true, List, Some, sym, refl, ◌∙◌, subst, inl, inr, arith, false, Option, None}
-use Rattle.hurd_machine.proofs.Common.{Active, Allowed, AttrOf, Below, BodyOf, ByBody, ByControl, ByNode, ByParent, BySeat, Child, Coherent, Control, Could, CouldServe, Dir, EmptyOf, Exec, GidOfRight, GidOfTask, HasGid, HasUid, Header, Holds, Io, IoRight, IsAmong, IsOpen, Knows, MaySend, Name, OfControl, OfNode, OfSeat, OpenFlags, OpenOf, Opened, OptionsOf, Owns, OwnsIt, Part, Pending, READ, Read, Right, Seen, Sees, SeesBody, SeesEmpty, Sends, ServerInfo, ServerRoot, Start, Taken, Target, Task, TaskOf, TextOf, SeesText, ToControl, InRoot, ToPut, ToRead, ToSearch, UidOfRight, UidOfTask, UsersOf, WRITE, Want, Way, World, Write, active_at, asks, body_at, boot_root, counts_at, counts_by, counts_opens, entry_of, header_at, home_at, info_in, open_at, server_at, task_at, tells, with_text, EndsOf}
+use Rattle.hurd_machine.proofs.Common.{Active, Allowed, AttrOf, Below, BodyOf, ByBody, ByControl, ByNode, ByParent, BySeat, Child, Coherent, Control, Could, CouldServe, Dir, EmptyOf, Exec, GidOfRight, GidOfTask, HasGid, HasUid, Header, Holds, Io, IoRight, IsAmong, IsOpen, Knows, MaySend, Name, OfControl, OfNode, OfSeat, OpenFlags, OpenOf, Opened, OptionsOf, Owns, OwnsIt, Part, Pending, READ, Read, Right, Seen, Sees, SeesBody, SeesEmpty, Sends, ServerInfo, ServerRoot, Start, Taken, Target, Task, TaskOf, TextOf, SeesText, ToControl, InRoot, ToPut, ToRead, ToSearch, UidOfRight, UidOfTask, UsersOf, WRITE, Want, Way, World, Write, active_at, asks, body_at, boot_root, counts_at, counts_by, counts_opens, entry_of, header_at, home_at, info_in, open_at, server_at, task_at, tells, with_text, EndsOf, TotalOf, SeesTotal}
 use Rattle.hurd_ports.specs.Tables.{nodes_of as nodes_named}
 use Rattle.hurd_machine.specs.Sight.{Root, Held, Controlled, Parent}
 use Rattle.hurd_machine.proofs.Coherence.{header_old, entry_old, home_old, right_old, entry_lists, home_server, seat_there}
@@ -37,6 +37,7 @@ NewPart S v (OpenOf o) = NewTo S v o
 NewPart S v (OptionsOf s) = NewTo S v s
 NewPart S v (TextOf s) = NewTo S v s
 NewPart S v (UsersOf s) = NewTo S v s
+NewPart S v (TotalOf s) = NewTo S v s
 NewPart S v (TaskOf t) = ⊥
 
 -- a node that S saw, or a new one of its own; and a part likewise
@@ -329,6 +330,10 @@ module _ {S : ℕ → Bool} {v x : World} (coherent : Coherent v) (i : Inside S 
       root : home_at v info.root ≡ Some q
       root = coherent.housing.roots q (with_text is.0 info) is.1
 
+  total_inside : (q : Name) (t : SeesTotal S x q) → ServerInside S v q t.info → Known S v (TotalOf q)
+  total_inside q t (inr new) = inr new.0
+  total_inside q t (inl is) = elim (sends_inside q t.info is.0 is.1 t.why) [ inl k ↦ inl (record { info = with_text is.0 t.info; is_server = is.1; tree = t.tree; why = k }) | inr new ↦ inr new ]
+
   -- a part that is seen was seen, or is new
   pub sees_inside : (p : Part) → Sees S x p → Known S v p
   sees_inside (AttrOf n) s = seen_inside n s
@@ -353,4 +358,5 @@ module _ {S : ℕ → Bool} {v x : World} (coherent : Coherent v) (i : Inside S 
   sees_inside (OptionsOf q) s = knows_inside q s
   sees_inside (TextOf q) s = text_inside q s.0 s.2 (i.servers q s.0 s.1)
   sees_inside (UsersOf q) s = users_inside q s (i.servers q s.info s.is_server)
+  sees_inside (TotalOf q) s = total_inside q s (i.servers q s.info s.is_server)
   sees_inside (TaskOf t) s = inl s

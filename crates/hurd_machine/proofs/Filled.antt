@@ -1,8 +1,8 @@
 -- Changes after which nodes still have the sizes that their servers say, and in them and in their headers what may be there.
-use Rattle.std.proofs.Common.{◌≡◌, ◌≢◌, ℕ, true, true≢false, List, [], ◌∷◌, ◌++◌, Option, Some, None, sym, refl, ◌∙◌, ap, ap₂, subst, inl, inr}
+use Rattle.std.proofs.Common.{◌≡◌, ◌≢◌, ℕ, true, List, [], ◌∷◌, ◌++◌, Option, Some, None, sym, refl, ◌∙◌, ap, ap₂, subst, inl, inr}
 use Rattle.std.specs.Prelude.{Ok}
 use Rattle.std.specs.Option.{option_map}
-use Rattle.hurd_machine.proofs.Common.{AreFilled, Body, Change, Coherent, Did, EditBody, EditHeader, EditOpen, EditTask, GoodBehaviour, Header, IsFilled, MakeNode, MakeOpen, Name, Node, Question, Send, ServerInfo, Settle, World, apply, apply_all, asked_at, asked_of, changes_of, counts_at, counts_by, edit, edit_bytes, edit_size, edits_of, get, info_at, info_in, new_site, on_bytes, server_at, stays, tree_by, with_body, with_entry, with_header, with_size, without_entry, LetGo}
+use Rattle.hurd_machine.proofs.Common.{AreFilled, Body, Change, Coherent, Did, EditBody, EditHeader, EditOpen, EditTask, GoodBehaviour, Header, IsFilled, MakeNode, MakeOpen, Name, Node, Question, Send, ServerInfo, Settle, World, apply, apply_all, asked_at, asked_of, changes_of, edit, edit_bytes, edit_size, edits_of, get, info_at, info_in, new_site, on_bytes, server_at, stays, tree_by, with_body, with_entry, with_header, with_size, without_entry, LetGo}
 use Rattle.hurd_nodes.proofs.Sites.{home-here, home-apart}
 use Rattle.hurd_creds.proofs.NameLaws.{same_or_apart, edit_here, edit_apart}
 use Rattle.hurd_trans_iface.specs.Behaviour.{bytes_left, size_left}

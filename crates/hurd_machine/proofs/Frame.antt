@@ -1,24 +1,26 @@
 -- What changes leave as it was.
-use Rattle.std.proofs.Common.{◌≡◌, ◌≢◌, ◌⊎◌, ℕ, Bool, false, List, [], ◌∷◌, ◌++◌, Option, Some, None, length, sym, refl, ◌∙◌, ap, ap₂, subst, inl, inr, arith, true}
+use Rattle.std.proofs.Common.{◌≡◌, ◌≢◌, ◌⊎◌, ℕ, Bool, false, List, [], ◌∷◌, ◌++◌, Option, Some, None, length, sym, refl, ◌∙◌, ap, ap₂, subst, inl, inr, arith, true, true≢false}
 use Rattle.std.specs.Option.{option_map}
 use Rattle.hurd_nodes.proofs.Sites.{home-apart}
-use Rattle.hurd_machine.proofs.Common.{ABody, ATask, AUsers, AnEmpty, AnOpen, AnOptions, Attach, AttrOf, Below, BodyOf, Change, Coherent, Control, DropServer, EditBody, EditHeader, EditOpen, EditTask, EmptyOf, Io, IsGone, LetGo, MakeNode, MakeOpen, Name, NameMap, OpenOf, Opened, OptionsOf, Part, Right, Sees, Send, ServerInfo, SetText, Settle, Sound, Start, Task, TaskOf, TextOf, AText, faced, Unseat, UsersOf, World, apply, apply_all, body_at, count_list, counts_at, counts_by, edit, ends_at, ends_of, header_at, holders, home_at, info_in, is_empty_dir, is_on, names_open, new_site, one_if, open_at, part, rights_of, server_at, site_at, task_at, users, with_body, with_header, with_sent, with_text, EndsOf, AnEnds}
+use Rattle.hurd_machine.proofs.Common.{ABody, ATask, AUsers, AnEmpty, AnOpen, AnOptions, Attach, AttrOf, Below, BodyOf, Change, Coherent, Control, DropServer, EditBody, EditHeader, EditOpen, EditTask, EmptyOf, Io, IsGone, LetGo, MakeNode, MakeOpen, Name, NameMap, OpenOf, Opened, OptionsOf, Part, Right, Sees, Send, ServerInfo, SetText, Settle, Sound, Start, Task, TaskOf, TextOf, AText, faced, Unseat, UsersOf, World, apply, apply_all, body_at, count_list, counts_at, counts_by, edit, ends_at, ends_of, header_at, holders, home_at, info_in, is_empty_dir, is_on, names_open, new_site, one_if, open_at, part, rights_of, server_at, site_at, task_at, users, with_body, with_header, with_sent, with_text, EndsOf, AnEnds, ATotal, TotalOf, Header, Node, counts_for, total_if, total_at, tree_by, info_at, is_home, get, insert, Body}
 use Rattle.hurd_creds.proofs.NameLaws.{same_name-apart, get_apart, same_or_apart, edit_here, edit_apart as edit_other}
 use Rattle.hurd_machine.proofs.Faces.{face_in, text_in}
 use Rattle.hurd_ports.specs.Steps.{named}
 use Rattle.hurd_ports.proofs.TaskLaws.{edit-apart, edit-length}
 use Rattle.hurd_machine.specs.Change.{settle, next_nodes, next_sites, next_opens, next_tasks}
-use Rattle.hurd_machine.proofs.Nodes.{attr_same, header_in, body_in, empty_in, header-with_body, body-with_header, edit_keeps, KeepsEmptiness, empty-kept}
+use Rattle.hurd_machine.proofs.Nodes.{attr_same, header_in, body_in, empty_in, header-with_body, body-with_header, edit_keeps, KeepsEmptiness, empty-kept, by_option}
 use Rattle.hurd_machine.proofs.Tasks.{count_edit, count_named, count_sent}
-use Rattle.hurd_machine.proofs.Coherence.{next_not, no_home, no_open, settled_apart, Proper, AllProper}
+use Rattle.hurd_machine.proofs.Coherence.{next_not, no_home, no_open, settled_apart, Proper, AllProper, no_node}
 use Rattle.hurd_machine.proofs.Keeping.{coherent_one}
 use Rattle.hurd_machine.proofs.Views.{Agree, Agree-trans}
 use Rattle.hurd_machine.specs.Touched.{Goes}
 use Rattle.hurd_machine.proofs.Comes.{attach_is}
-use Rattle.hurd_machine.proofs.Sites.{not_home}
+use Rattle.hurd_machine.proofs.Sites.{not_home, home_is}
 use Rattle.hurd_machine.proofs.ServerParts.{users_named, come_parts, drop_parts, unseated_parts}
 use Rattle.hurd_machine.proofs.Settle.{AsBefore, settle_part, settle_agrees}
 use Rattle.hurd_machine.proofs.Ends.{counts_text, ends_by, ends_edited, ends_let_go_apart, ends_made_apart, made_uncounted}
+use Rattle.hurd_machine.proofs.Totals.{total_other, total_still, total_made, total_unmade, total_part, own_total}
+use Rattle.std.proofs.lemmas.Bool.{cases_Bool}
 
 -- of a task z in place of x, as many rights name each open, and are on each server's nodes, but for those of T
 pub record Moved (T : Part → Type 0) (w : World) (x z : Task) : Type 0 where
@@ -31,17 +33,23 @@ Covers T w (Io r) = T (OpenOf r.open_name) × ((s : Name) → home_at w r.node �
 Covers T w (Control s) = Unit {0}
 Covers T w (Start n) = Unit {0}
 
+-- a header that counts for as much as before in the total of its server, if that keeps a tree; or the total is among T
+abbrev pub Recounts : (Part → Type 0) → World → Name → (Header → Header) → Type 0
+Recounts T w n f =
+    (tree_by (info_at w n) ≡ false) ⊎ (((h : Header) → header_at w n ≡ Some h → counts_for (f h) ≡ counts_for h) ⊎ ((s : Name) → home_at w n ≡ Some s → T (TotalOf s)))
+
 -- a change that writes the parts T alone
 abbrev pub Within : (Part → Type 0) → World → Change → Type 0
-Within T w (EditHeader n f) = T (AttrOf n)
+Within T w (EditHeader n f) = T (AttrOf n) × Recounts T w n f
 Within T w (EditBody n g) = T (BodyOf n) × (T (EmptyOf n) ⊎ KeepsEmptiness g)
-Within T w (MakeNode n s node) = T (TaskOf n.task.0) × T (AttrOf n) × T (EmptyOf n) × T (BodyOf n)
+Within T w (MakeNode n s node) = T (TaskOf n.task.0) × T (AttrOf n) × T (EmptyOf n) × T (BodyOf n) × ((counts_for node.header ≡ 0) ⊎ T (TotalOf s))
 Within T w (EditOpen o f) = T (OpenOf o)
 Within T w (MakeOpen o z) = T (TaskOf o.task.0) × T (OpenOf o) × (counts_at w z.node ≡ true → T (EndsOf z.node))
 Within T w (LetGo o) = T (OpenOf o) × ((z : Opened) → open_at w o ≡ Some z → counts_at w z.node ≡ true → T (EndsOf z.node))
 Within T w (EditTask q f) = T (TaskOf q) × ((x : Task) → task_at w q ≡ Some x → Moved T w x (f x))
 Within T w (Send r q) = T (TaskOf q) × Covers T w r
-Within T w (Attach s at i node) = T (TaskOf s.task.0) × T (AttrOf i.root) × T (EmptyOf i.root) × T (BodyOf i.root) × T (EndsOf i.root) × T (AttrOf at) × T (OptionsOf s) × T (TextOf s)
+Within T w (Attach s at i node) =
+    T (TaskOf s.task.0) × T (AttrOf i.root) × T (EmptyOf i.root) × T (BodyOf i.root) × T (EndsOf i.root) × T (AttrOf at) × T (OptionsOf s) × T (TextOf s) × T (TotalOf s)
 Within T w (DropServer s) = (p : Part) → Goes w s p → T p
 Within T w (Unseat n) = T (AttrOf n)
 Within T w (SetText s text) = T (TextOf s) × ((i : ServerInfo) → server_at w s ≡ Some i → faced (with_text text i) ≡ faced i)
@@ -65,6 +73,7 @@ IsUnnamed w (OpenOf o) = Below w o → ⊥
 IsUnnamed w (OptionsOf s) = Below w s → ⊥
 IsUnnamed w (TextOf s) = Below w s → ⊥
 IsUnnamed w (UsersOf s) = Below w s → ⊥
+IsUnnamed w (TotalOf s) = Below w s → ⊥
 IsUnnamed w (TaskOf t) = ⊥
 
 -- what a call of task t may write: what it touches, the task itself, and what is new
@@ -116,12 +125,18 @@ not_named w o (Io r) T i h = same_name-apart r.open_name o (λ e. h (subst (λ z
 not_named w o (Control q) T i h = refl
 not_named w o (Start n) T i h = refl
 
+-- what a header counts for is asked after a change of a body as before it
+pub recounts_body : (T : Part → Type 0) (w : World) (d : Name) (g : Body → Body) (n : Name) (f : Header → Header) → Recounts T w n f → Recounts T (apply (EditBody d g) w) n f
+recounts_body T w d g n f (inl tree) = inl tree
+recounts_body T w d g n f (inr (inl same)) = inr (inl (λ h is. same h (sym (edit_keeps header_in (with_body g) (header-with_body g) w.nodes d n) ∙ is)))
+recounts_body T w d g n f (inr (inr touched)) = inr (inr touched)
+
 module _ (w : World) (coherent : Coherent w) (T : Part → Type 0) where
   avoids : (p q : Part) → T q → (T p → ⊥) → p ≢ q
   avoids p q i h e = h (subst T (sym e) i)
 
   header_kept : (c : Change) → (n : Name) → Within T w c → (T (AttrOf n) → ⊥) → header_at (next_world c w) n ≡ header_at w n
-  header_kept (EditHeader k f) n i h = ap header_in (edit_other w.nodes k (with_header f) n (λ e. avoids (AttrOf n) (AttrOf k) i h (ap AttrOf e)))
+  header_kept (EditHeader k f) n i h = ap header_in (edit_other w.nodes k (with_header f) n (λ e. avoids (AttrOf n) (AttrOf k) i.0 h (ap AttrOf e)))
   header_kept (EditBody k g) n i h = edit_keeps header_in (with_body g) (header-with_body g) w.nodes k n
   header_kept (MakeNode k s node) n i h = ap header_in (get_apart w.nodes k node n (λ e. avoids (AttrOf n) (AttrOf k) i.1 h (ap AttrOf e)))
   header_kept c n i h = refl
@@ -217,6 +232,37 @@ module _ (w : World) (coherent : Coherent w) (T : Part → Type 0) where
   users_kept (Attach q at j node) p s i h = count_named (is_on w s) q.task.0 2 w.tasks
   users_kept c p s i h = refl
 
+  -- a header that counts for as much
+  recounted : (k s : Name) (f : Header → Header) → (T (TotalOf s) → ⊥) → Recounts T w k f → total_at (next_world (EditHeader k f) w) s ≡ total_at w s
+  recounted k s f out (inl tree) = elim (cases_Bool (is_home s (home_at w k))) [
+    | inl mine ↦
+        let none : tree_by (server_at w s) ≡ false = ap (λ o. tree_by (info_in w.servers o)) (sym (home_is s (home_at w k) mine)) ∙ tree in
+        total_part (tree_by (server_at w s)) (tree_by (server_at w s)) _ _ refl (λ is. absurd (true≢false (sym is ∙ none)))
+    | inr other ↦ ap (total_if (tree_by (server_at w s))) (total_other w.nodes w.sites s k (with_header f) other)
+  ]
+  recounted k s f out (inr (inl same)) = ap (total_if (tree_by (server_at w s))) (total_still w.nodes w.sites s k (with_header f) (λ x is. same x.header (ap header_in is)))
+  recounted k s f out (inr (inr touched)) = elim (cases_Bool (is_home s (home_at w k))) [
+    | inl mine ↦ absurd (out (touched s (home_is s (home_at w k) mine)))
+    | inr other ↦ ap (total_if (tree_by (server_at w s))) (total_other w.nodes w.sites s k (with_header f) other)
+  ]
+
+  -- a new node that counts for nothing
+  total_grown : (n q s : Name) (node : Node) → get w.nodes n ≡ None → (counts_for node.header ≡ 0) ⊎ T (TotalOf q) → (T (TotalOf s) → ⊥) → own_total (insert w.nodes n node) (insert w.sites n (new_site q)) s ≡ own_total w.nodes w.sites s
+  total_grown n q s node new counts out = elim (same_or_apart s q) [
+    | inl same ↦ elim counts [
+      | inl none ↦ let sum = total_made w.nodes w.sites s n q node new same in omega (arith, sum, none)
+      | inr touched ↦ absurd (out (subst (λ z. T (TotalOf z)) (sym same) touched))
+    ]
+    | inr apart ↦ total_unmade w.nodes w.sites s n q node new apart
+  ]
+
+  total_kept : (c : Change) → Proper w c → (s : Name) → Within T w c → (T (TotalOf s) → ⊥) → total_at (next_world c w) s ≡ total_at w s
+  total_kept (EditHeader k f) p s i h = recounted k s f h i.1
+  total_kept (EditBody k g) p s i h = ap (total_if (tree_by (server_at w s))) (total_still w.nodes w.sites s k (with_body g) (λ x is. refl))
+  total_kept (MakeNode n q node) p s i h = ap (total_if (tree_by (server_at w s))) (total_grown n q s node (no_node coherent n (next_not w n p.0)) i.4 h)
+  total_kept (SetText q text) p s i h = ap (λ b. total_if b (own_total w.nodes w.sites s)) (edit_keeps tree_by (with_text text) (by_option (λ o. tree_by (option_map (with_text text) o)) tree_by refl (λ j. refl)) w.servers q s)
+  total_kept c p s i h = refl
+
   task_kept : (c : Change) → (q : ℕ) → Within T w c → (T (TaskOf q) → ⊥) → task_at (next_world c w) q ≡ task_at w q
   task_kept (EditTask k f) q i h = edit-apart k f w.tasks q (λ e. avoids (TaskOf q) (TaskOf k) i.0 h (ap TaskOf e))
   task_kept (Send r k) q i h = edit-apart k (with_sent r) w.tasks q (λ e. avoids (TaskOf q) (TaskOf k) i.0 h (ap TaskOf e))
@@ -234,6 +280,7 @@ module _ (w : World) (coherent : Coherent w) (T : Part → Type 0) where
   next_frame c pr (OptionsOf s) i h = ap AnOptions (face_kept c s i)
   next_frame c pr (TextOf s) i h = ap AText (text_kept c s i h)
   next_frame c pr (UsersOf s) i h = ap AUsers (users_kept c pr s i h)
+  next_frame c pr (TotalOf s) i h = ap ATotal (total_kept c pr s i h)
   next_frame c pr (TaskOf q) i h = ap ATask (task_kept c q i h)
 
 -- what a change doesn't write stays
@@ -241,7 +288,7 @@ pub frame : (T : Part → Type 0) (w : World) → Coherent w → (c : Change) �
 frame T w c (Attach s at i node) ex pr p within out =
     ap (λ x. part x p) (attach_is w s at i node c (next_not w s pr.next))
     ∙ come_parts w c s at i node pr p (λ e. out (subst T (sym e) within.0)) (λ e. out (subst T (sym e) within.1)) (λ e. out (subst T (sym e) within.2)) (λ e. out (subst T (sym e) within.3))
-    (λ e. out (subst T (sym e) within.4)) (λ e. out (subst T (sym e) within.5)) (λ e. out (subst T (sym e) within.6)) (λ e. out (subst T (sym e) within.7))
+    (λ e. out (subst T (sym e) within.4)) (λ e. out (subst T (sym e) within.5)) (λ e. out (subst T (sym e) within.6)) (λ e. out (subst T (sym e) within.7)) (λ e. out (subst T (sym e) within.8))
 frame T w c (DropServer s) ex pr p within out = drop_parts w s p (λ goes. out (within p goes))
 frame T w c (Unseat n) ex pr p within out = unseated_parts w n p (λ e. out (subst T (sym e) within))
 frame T w c Settle ex pr p within out = absurd ex

@@ -1,6 +1,6 @@
 -- A server goes, or comes, with what settles then: as pieces of any call.
-use Rattle.std.proofs.Common.{◌≡◌, ◌≢◌, ℕ, Bool, true, [], ◌∷◌, Some, ◌∙◌, ap}
-use Rattle.hurd_machine.proofs.Common.{Attach, AttrOf, BodyOf, Coherent, DropServer, EmptyOf, IsAmong, IsFilled, Name, Node, OptionsOf, Part, ServerInfo, TaskOf, TextOf, Unseat, World, apply, boot_name, empty, is_dir, is_other, out_server, tree_by, EndsOf}
+use Rattle.std.proofs.Common.{◌≡◌, ◌≢◌, ℕ, Bool, true, ◌∷◌, Some, ◌∙◌, ap, []}
+use Rattle.hurd_machine.proofs.Common.{Attach, AttrOf, BodyOf, Coherent, DropServer, EmptyOf, IsAmong, IsFilled, Name, Node, OptionsOf, Part, ServerInfo, TaskOf, TextOf, Unseat, World, apply, boot_name, empty, is_dir, is_other, out_server, tree_by, EndsOf, TotalOf}
 use Rattle.hurd_machine.specs.World.{nodes_of}
 use Rattle.hurd_machine.specs.Touched.{Goes}
 use Rattle.hurd_machine.proofs.Nodes.{header_in}
@@ -36,10 +36,10 @@ abbrev pub AimsAtSeen : ℕ → World → ServerInfo → Type 0
 AimsAtSeen t v i = (S : ℕ → Bool) → S t ≡ true → (n : Name) → IsAmong n i.targets → SeenOrNew S v n
 
 pub comes_piece : {T : Part → Type 0} {v w : World} → Stands w → (s at : Name) (i : ServerInfo) (node : Node) → Comes w s at i node → Begun i node
-    → T (TaskOf s.task.0) → T (AttrOf i.root) → T (EmptyOf i.root) → T (BodyOf i.root) → T (EndsOf i.root) → T (AttrOf at) → T (OptionsOf s) → T (TextOf s) → AimsAtSeen s.task.0 v i
+    → T (TaskOf s.task.0) → T (AttrOf i.root) → T (EmptyOf i.root) → T (BodyOf i.root) → T (EndsOf i.root) → T (AttrOf at) → T (OptionsOf s) → T (TextOf s) → T (TotalOf s) → AimsAtSeen s.task.0 v i
     → Piece s.task.0 T v w (Attach s at i node ∷ [])
-comes_piece {T} {v} {w} st s at i node p b task attr empty body ends seat options text aims = record {
-  within = ((task, attr, empty, body, ends, seat, options, text), tt);
+comes_piece {T} {v} {w} st s at i node p b task attr empty body ends seat options text total aims = record {
+  within = ((task, attr, empty, body, ends, seat, options, text, total), tt);
   proper = (p, λ d. tt);
   linked = linked_come w st.coherent s at i node p b.links b.tree st.linked;
   filled = filled_come w st.coherent s at i node p b.filled st.filled;

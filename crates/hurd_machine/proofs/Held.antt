@@ -1,9 +1,9 @@
 -- Changes that leave each open held by a right.
-use Rattle.std.proofs.Common.{◌≡◌, ℕ, true, List, [], ◌∷◌, Some, inl, inr}
+use Rattle.std.proofs.Common.{◌≡◌, ℕ, true, List, [], ◌∷◌, inl, inr}
 use Rattle.hurd_machine.proofs.Common.{Attach, Change, Control, EditOpen, EditTask, Io, IoRight, IsAmong, IsSettled, LetGo, MakeNode, MakeOpen, Name, Right, Send, Start, Task, World, apply, apply_all, edit_task, is_held, names_open, ports_of, rights_of, with_sent}
 use Rattle.hurd_ports.specs.Steps.{named}
 use Rattle.hurd_machine.proofs.Coherence.{was_settled}
-use Rattle.hurd_machine.proofs.Holders.{HeldBy, any_right, held_by, is_any}
+use Rattle.hurd_machine.proofs.Holders.{held_by, is_any}
 use Rattle.hurd_machine.proofs.Nodes.{was_edited}
 use Rattle.hurd_machine.proofs.Tasks.{edit_still, sent_keeps}
 

@@ -4,6 +4,7 @@ pub mod Nodes
 pub mod Faces
 pub mod Sites
 pub mod Holders
+pub mod Totals
 pub mod Listed
 pub mod Stays
 pub mod Sweeps
@@ -40,6 +41,7 @@ pub mod Sharing
 pub mod Sending
 pub mod Taking
 pub mod Edits
+pub mod Lasts
 pub mod Attrs
 pub mod Retexting
 pub mod Makes

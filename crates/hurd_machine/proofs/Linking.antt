@@ -1,5 +1,5 @@
 -- Another name for a file, as a piece of any call.
-use Rattle.std.proofs.Common.{if◌then◌else◌, ◌≡◌, ℕ, Bool, true, false, not, is_some, nat_lt, List, [], ◌∷◌, Option, Some, None, refl, sym, ap, ◌∙◌, ◌+◌, inl, true≢false, arith}
+use Rattle.std.proofs.Common.{if◌then◌else◌, ◌≡◌, ℕ, Bool, true, false, not, is_some, nat_lt, List, [], ◌∷◌, Option, Some, None, refl, sym, ap, ◌∙◌, ◌+◌, inl, true≢false, arith, inr}
 use Rattle.std.specs.Prelude.{Result, Ok, Err}
 use Rattle.std.proofs.lemmas.Bool.Decides.{nat_tests}
 use Rattle.hurd_machine.proofs.Common.{AttrOf, BodyOf, Change, Coherent, EEXIST, EISDIR, ENOTDIR, EOVERFLOW, EROFS, EXDEV, EditBody, EditHeader, EmptyOf, Errno, GoodBehaviour, Header, LeadsUp, Name, Node, Part, Seen, ServerInfo, Sound, World, apply, are_kin, body_at, empty, entry_of, get, home_at, info_at, info_in, is_dir, keeps_tree, link_by, link_in, links_at, most_links, tree_by, with_entry}
@@ -17,6 +17,7 @@ use Rattle.hurd_machine.proofs.Makes.{entry_proper}
 use Rattle.hurd_machine.proofs.Links.{listing_of}
 use Rattle.hurd_machine.proofs.Relinks.{again_linked}
 use Rattle.hurd_machine.proofs.Piece.{Whole, quiet}
+use Rattle.hurd_machine.proofs.Frame.{Recounts, recounts_body}
 
 -- where a file may get another name: in a directory of a tree that has no such entry, of the file's own server
 pub record MayLink (w : World) (d : Name) (name : List ℕ) (n : Name) : Type 0 where
@@ -105,16 +106,16 @@ module _ (d : Name) (name : List ℕ) (n : Name) where
   linked_less S v h = less_same S v n (linked h) h refl refl refl refl (λ p e. inl e)
 
   -- in a directory that leads up
-  pub link_whole : ((k : ServerKind) → GoodBehaviour (behaviour_of k)) → {t : ℕ} {T : Part → Type 0} {w : World} → Sound w → MayLink w d name n → LeadsUp (nodes_of w) d → T (BodyOf d) → T (EmptyOf d) → T (AttrOf n)
+  pub link_whole : ((k : ServerKind) → GoodBehaviour (behaviour_of k)) → {t : ℕ} {T : Part → Type 0} {w : World} → Sound w → MayLink w d name n → LeadsUp (nodes_of w) d → T (BodyOf d) → T (EmptyOf d) → T (AttrOf n) → Recounts T w n linked
       → ((S : ℕ → Bool) → S t ≡ true → Seen S w n) → Whole t T w w linking
-  link_whole good {t} {T} {w} s m up body empty attr seen =
+  link_whole good {t} {T} {w} s m up body empty attr counts seen =
       let grown : World = apply (EditBody d (with_entry name n)) w in
       let listing = listing_of m.node.header m.node.body (s.coherent.tree.shapes d m.node m.is_node) m.dir in
       quiet linking (tt, (linked_entered, tt)) s (record {
-        within = ((body, inl empty), (attr, tt));
+        within = ((body, inl empty), ((attr, recounts_body T w d (with_entry name n) n linked counts), tt));
         proper = link_proper w s.coherent m;
         linked = again_linked w d n name linked m.node listing.0 m.file.header m.is_node listing.1 (ap header_in m.is_file) m.no_dir up (λ h. (refl, refl)) refl s.linked;
         filled = filled_append added counted w (filled_entry good w d name n m.tree) (filled_header grown n linked (λ h. refl) (tree_header grown n linked (ap (λ o. tree_by (info_in w.servers o)) m.kin ∙ m.tree))) s.filled;
         held = s.settled.opens;
-        may = λ S ours. (entry_may S w w d name n (inl (seen S ours)), (λ h at. linked_less S w h, tt));
+        may = λ S ours. (entry_may S w w d name n (inl (seen S ours)), ((λ h at. linked_less S w h, inr (inl (seen S ours))), tt));
       })

@@ -2,7 +2,7 @@
 use Rattle.std.proofs.Common.{if◌then◌else◌, ◌≡◌, ◌≢◌, ◌⊎◌, ◌∙◌, ℕ, ◌+◌, Bool, true, false, not, cond, is_some, List, [], ◌∷◌, ◌++◌, Option, Some, None, sym, refl, ap, subst, inl, inr, true≢false, arith}
 use Rattle.std.specs.Prelude.{Result, Ok, Err}
 use Rattle.std.specs.Option.{option_map}
-use Rattle.hurd_machine.proofs.Common.{AreDistinct, Below, Body, BodyOf, Change, Coherent, Content, Dir, EEXIST, ENOTDIR, EOPNOTSUPP, EROFS, EditBody, EmptyOf, Errno, File, GoodBehaviour, HasDistinctNames, Header, IsFilled, IsShaped, Kind, LeadsUp, Listing, MakeNode, Name, NewNode, Node, OfNode, Part, Seen, ServerInfo, Sound, Task, World, apply, apply_all, body_at, bytes_eq, entry_in, entry_of, fresh, get, header_at, home_at, info_at, info_in, is_dir, is_entered, is_made, is_server_root, is_taken, keeps_tree, lists, lists_at, made_node, makes_at, named_by, new_dir, new_file, new_site, server_at, task_at, times_in, times_listed, tree_by, with_body, with_entry}
+use Rattle.hurd_machine.proofs.Common.{AreDistinct, Below, Body, BodyOf, Change, Coherent, Content, Dir, EEXIST, ENOTDIR, EOPNOTSUPP, EROFS, EditBody, EmptyOf, Errno, File, GoodBehaviour, HasDistinctNames, Header, IsFilled, IsShaped, Kind, LeadsUp, Listing, MakeNode, Name, NewNode, Node, OfNode, Part, Seen, ServerInfo, Sound, Task, World, apply, apply_all, body_at, bytes_eq, entry_in, entry_of, fresh, get, header_at, home_at, info_at, info_in, is_dir, is_entered, is_made, is_server_root, is_taken, keeps_tree, lists, lists_at, made_node, makes_at, named_by, new_dir, new_file, new_site, server_at, task_at, times_in, times_listed, tree_by, with_body, with_entry, counts_for, unlinked, with_header}
 use Rattle.hurd_nodes.proofs.Sites.{home-here, home-apart}
 use Rattle.hurd_creds.proofs.NameLaws.{equal_if_same, get_here, get_apart, same_or_apart}
 use Rattle.hurd_trans_iface.specs.Nodes.{Entry}
@@ -152,6 +152,14 @@ module _ (d : Name) (name : List ℕ) (new : NewNode) (x : Node) (is : made_node
   made_fit : ((k : ServerKind) → GoodBehaviour (behaviour_of k)) → (i : ServerInfo) → keeps_tree i.kind ≡ true → IsFilled i x
   made_fit good i tree = ((good i.kind).newborn tree i.text d (Some name) new x is, tree_holds i.kind x.body tree, tree_has i.kind x.header tree)
 
+-- what is made counts for nothing yet
+made_nothing : (d : Name) (entry : Option (List ℕ)) (new : NewNode) (kind : Kind) (x : Node) → option_map (named_by entry) (node_of_kind d new kind) ≡ Some x → counts_for x.header ≡ 0
+made_nothing d (Some name) new File x is = let same : new_file new.owner new.group new.mode ≡ x = cc in subst (λ (z : Node). counts_for z.header ≡ 0) same refl
+made_nothing d (Some name) new Dir x is = let same : new_dir new.owner new.group new.mode (Some d) ≡ x = cc in subst (λ (z : Node). counts_for z.header ≡ 0) same refl
+made_nothing d None new File x is = let same : with_header unlinked (new_file new.owner new.group new.mode) ≡ x = cc in subst (λ (z : Node). counts_for z.header ≡ 0) same refl
+made_nothing d None new Dir x is = let same : with_header unlinked (new_dir new.owner new.group new.mode (Some d)) ≡ x = cc in subst (λ (z : Node). counts_for z.header ≡ 0) same refl
+made_nothing d entry new kind x is = absurd (cc)
+
 -- the node, and its entry
 abbrev pub entered : Name → Name → Node → Name → List ℕ → List Change
 entered n s node d name = MakeNode n s node ∷ EditBody d (with_entry name n) ∷ []
@@ -264,7 +272,7 @@ pub entered_whole : ((k : ServerKind) → GoodBehaviour (behaviour_of k)) → {T
     → Whole t (Full w t T) w w (entered (fresh t x) s node d name)
 entered_whole good {T} {w} st t x is s d home {kind} name m up new node made_is is_in hangs body empty seen =
     quiet (entered n s node d name) ((is_in, no_home c n still, m.info, is_server), (tt, tt)) st (record {
-      within = ((own_task w t T, inr (inr still), inr (inr still), inr (inr still)), ((inl body, inl (inl empty)), tt));
+      within = ((own_task w t T, inr (inr still), inr (inr still), inr (inr still), inl (made_nothing d (Some name) new new.kind node made_is)), ((inl body, inl (inl empty)), tt));
       proper = entered_proper w n s node d name c next home (ap tree_by m.is_info ∙ m.tree) (absent w d name kind m) ready;
       linked = entered_linked w n s node d name c next m up ready.empty hangs st.linked;
       filled =

@@ -1,21 +1,22 @@
 -- The same change of a task of S in two worlds that are alike for S: they are alike afterwards.
-use Rattle.std.proofs.Common.{◌≡◌, ◌⊎◌, ℕ, Bool, true, true≢false, List, Some, length, nat_lt, sym, refl, ◌∙◌, ap, ap₂, subst, inl, inr, arith}
+use Rattle.std.proofs.Common.{◌≡◌, ◌⊎◌, ℕ, Bool, true, true≢false, List, Some, length, nat_lt, sym, refl, ◌∙◌, ap, ap₂, subst, inl, inr, arith, ◌+◌, None}
 use Rattle.std.specs.Option.{option_map}
 use Rattle.hurd_machine.proofs.Faces.{face_in, text_in, face-with_text, text-with_text}
-use Rattle.hurd_machine.proofs.Common.{ABody, ATask, AUsers, AnEmpty, AnOpen, AnOptions, Attach, AttrOf, BodyOf, Change, Coherent, Control, DropServer, EditBody, EditHeader, EditOpen, EditTask, EmptyOf, Io, IsAmong, LetGo, MakeNode, MakeOpen, Name, OpenOf, OptionsOf, Part, Right, Send, SetText, Settle, Start, Task, TaskOf, TextOf, AText, ServerInfo, faced, Unseat, UsersOf, World, apply, body_at, count_rights, counts_at, counts_by, edit_task, ends_at, ends_of, get, header_at, holders, home_at, info_in, is_empty_dir, is_held, is_home, is_on, names_open, new_site, one_if, open_at, part, rights_of, server_at, site_at, task_at, users, with_body, with_header, with_sent, with_text, EndsOf, AnEnds}
+use Rattle.hurd_machine.proofs.Common.{ABody, ATask, AUsers, AnEmpty, AnOpen, AnOptions, Attach, AttrOf, BodyOf, Change, Coherent, Control, DropServer, EditBody, EditHeader, EditOpen, EditTask, EmptyOf, Io, IsAmong, LetGo, MakeNode, MakeOpen, Name, OpenOf, OptionsOf, Part, Right, Send, SetText, Settle, Start, Task, TaskOf, TextOf, AText, ServerInfo, faced, Unseat, UsersOf, World, apply, body_at, count_rights, counts_at, counts_by, edit_task, ends_at, ends_of, get, header_at, holders, home_at, info_in, is_empty_dir, is_held, is_home, is_on, names_open, new_site, one_if, open_at, part, rights_of, server_at, site_at, task_at, users, with_body, with_header, with_sent, with_text, EndsOf, AnEnds, ATotal, TotalOf, Header, Node, counts_for, total_if, total_at, tree_by, edit, insert}
 use Rattle.hurd_nodes.proofs.Sites.{home-apart}
 use Rattle.hurd_creds.proofs.NameLaws.{same_or_apart, edit_apart}
 use Rattle.hurd_ports.specs.Steps.{named}
-use Rattle.hurd_machine.proofs.Nodes.{attr_same, header_in, body_in, empty_in, header-with_header, header-with_body, body-with_header, body-with_body, edit_alike, insert_alike, ByEmptiness, edit_empty_alike}
+use Rattle.hurd_machine.proofs.Nodes.{attr_same, header_in, body_in, empty_in, header-with_header, header-with_body, body-with_header, body-with_body, edit_alike, insert_alike, ByEmptiness, edit_empty_alike, edit_keeps, by_option}
 use Rattle.hurd_machine.proofs.Tasks.{edit_here, edit_same, count_edit, count_named, list_alike, count_sent}
 use Rattle.hurd_ports.proofs.HeldLaws.{held_counted}
-use Rattle.hurd_machine.proofs.Coherence.{next_not, no_open, settled_alike, settled_apart, Proper}
+use Rattle.hurd_machine.proofs.Coherence.{next_not, no_open, settled_alike, settled_apart, Proper, no_node}
 use Rattle.hurd_machine.proofs.Ends.{counts_text, ends_by, ends_edited, ends_let_go_alike, ends_made_alike, ends_told, made_uncounted}
 use Rattle.hurd_machine.proofs.Frame.{IsExact, next_world, next_is}
 use Rattle.hurd_machine.proofs.Comes.{attach_is}
 use Rattle.hurd_machine.proofs.ServerParts.{IsInside, users_named, come_alike, drop_alike, unseated_alike}
 use Rattle.hurd_machine.proofs.Confine.{SeenOrNew, Known, RightInside, Inside}
-use Rattle.hurd_machine.proofs.Allowed.{May, may_inside}
+use Rattle.hurd_machine.proofs.Allowed.{May, may_inside, KeepsCount}
+use Rattle.hurd_machine.proofs.Totals.{total_still, total_alike, total_made, total_unmade, total_both, own_total}
 
 -- x and y are alike in all that S saw in v or makes
 pub record Mirror (S : ℕ → Bool) (v x y : World) : Type 0 where
@@ -181,6 +182,41 @@ module _ (S : ℕ → Bool) (v x y : World) (before : Inside S v x) (cx : Cohere
       let same = ends_told x y n e in
       ends_by (next_world c x) (next_world c y) n (told_alike c px py n same.0) (λ told. opens_alike c px py m n (same.1 (was_told c px n told)))
 
+  -- what a header counts for changes alike in both, where it does
+  total_edited : (k : Name) (f : Header → Header) (s : Name) → KeepsCount f ⊎ SeenOrNew S v k → own_total y.nodes y.sites s ≡ own_total x.nodes x.sites s
+      → own_total (edit k (with_header f) y.nodes) y.sites s ≡ own_total (edit k (with_header f) x.nodes) x.sites s
+  total_edited k f s (inl keeps) e =
+      total_still y.nodes y.sites s k (with_header f) (λ z is. keeps z.header) ∙ e ∙ sym (total_still x.nodes x.sites s k (with_header f) (λ z is. keeps z.header))
+  total_edited k f s (inr known) e =
+      let attr = alike.parts (AttrOf k) known in
+      let header : header_at y k ≡ header_at x k = cc (attr) in
+      total_alike x.nodes y.nodes x.sites y.sites s k f (home_same k known) header e
+
+  total_grown : (n q : Name) (node : Node) (s : Name) → get x.nodes n ≡ None → get y.nodes n ≡ None → own_total y.nodes y.sites s ≡ own_total x.nodes x.sites s
+      → own_total (insert y.nodes n node) (insert y.sites n (new_site q)) s ≡ own_total (insert x.nodes n node) (insert x.sites n (new_site q)) s
+  total_grown n q node s nx ny e = elim (same_or_apart s q) [
+    | inl same ↦ total_made y.nodes y.sites s n q node ny same ∙ ap (λ k. k + counts_for node.header) e ∙ sym (total_made x.nodes x.sites s n q node nx same)
+    | inr apart ↦ total_unmade y.nodes y.sites s n q node ny apart ∙ e ∙ sym (total_unmade x.nodes x.sites s n q node nx apart)
+  ]
+
+  sums_alike : (c : Change) → Proper x c → Proper y c → May S v x c → (s : Name) → own_total y.nodes y.sites s ≡ own_total x.nodes x.sites s
+      → own_total (next_world c y).nodes (next_world c y).sites s ≡ own_total (next_world c x).nodes (next_world c x).sites s
+  sums_alike (EditHeader k f) px py m s e = total_edited k f s m.1 e
+  sums_alike (EditBody k g) px py m s e = total_still y.nodes y.sites s k (with_body g) (λ z is. refl) ∙ e ∙ sym (total_still x.nodes x.sites s k (with_body g) (λ z is. refl))
+  sums_alike (MakeNode n q node) px py m s e = total_grown n q node s (no_node cx n (next_not x n px.0)) (no_node cy n (next_not y n py.0)) e
+  sums_alike c px py m s e = e
+
+  -- a server keeps its kind
+  trees_kept : (z : World) (c : Change) (s : Name) → tree_by (server_at (next_world c z) s) ≡ tree_by (server_at z s)
+  trees_kept z (SetText q text) s = edit_keeps tree_by (with_text text) (by_option (λ o. tree_by (option_map (with_text text) o)) tree_by refl (λ j. refl)) z.servers q s
+  trees_kept z c s = refl
+
+  totals_alike : (c : Change) → Proper x c → Proper y c → May S v x c → (s : Name) → total_at y s ≡ total_at x s → total_at (next_world c y) s ≡ total_at (next_world c x) s
+  totals_alike c px py m s e =
+      ap (λ b. total_if b (own_total (next_world c y).nodes (next_world c y).sites s)) (trees_kept y c s)
+      ∙ total_both (tree_by (server_at x s)) (tree_by (server_at y s)) _ _ _ _ e (sums_alike c px py m s)
+      ∙ sym (ap (λ b. total_if b (own_total (next_world c x).nodes (next_world c x).sites s)) (trees_kept x c s))
+
   module _ (c : Change) (px : Proper x c) (py : Proper y c) (m : May S v x c) (after : Inside S v (apply c x)) where
     -- each part that S knows is alike afterwards
     next_same : (p : Part) → Known S v p → part (next_world c y) p ≡ part (next_world c x) p
@@ -192,6 +228,7 @@ module _ (S : ℕ → Bool) (v x y : World) (before : Inside S v x) (cx : Cohere
     next_same (OptionsOf s) known = let e = alike.parts (OptionsOf s) known in ap AnOptions (face_alike x y c s (cc))
     next_same (TextOf s) known = let e = alike.parts (TextOf s) known in ap AText (text_alike x y c s (cc))
     next_same (UsersOf s) known = let e = alike.parts (UsersOf s) known in ap AUsers (users_alike c px py m after s (cc))
+    next_same (TotalOf s) known = let e = alike.parts (TotalOf s) known in ap ATotal (totals_alike c px py m s (cc))
     next_same (TaskOf q) known = let e = alike.parts (TaskOf q) known in ap ATask (task_alike x y c q (cc))
 
 -- of what S knows of what is in a node, or who reads it, it knows the node

@@ -2,7 +2,7 @@
 use Rattle.std.proofs.Common.{◌≡◌, ◌∙◌, ℕ, ◌+◌, Bool, true, false, cond, List, [], ◌∷◌, Some, None, sym, refl, ap, subst, inl, inr, arith}
 use Rattle.hurd_machine.proofs.Sites.{seat_kept}
 use Rattle.hurd_nodes.proofs.Sites.{home-here, home-apart}
-use Rattle.hurd_machine.proofs.Common.{Below, Change, Coherent, IdSets, Io, IoRight, IsAmong, IsFilled, IsShaped, MakeNode, Name, Node, OpenFlags, OptionsOf, Part, Right, Sees, ServerInfo, Sound, Taken, Task, TaskOf, UsersOf, World, apply, apply_all, counts_by, edit_task, fresh, gives_text, header_at, home_at, info_at, info_in, is_dir, is_entered_at, is_held, keeps_tree, leads_on, namings, new_open, new_site, opening, server_at, shape_at, shape_by, stays, task_at, times_listed, tree_by, ways_of, with_port}
+use Rattle.hurd_machine.proofs.Common.{Below, Change, Coherent, IdSets, Io, IoRight, IsAmong, IsFilled, IsShaped, MakeNode, Name, Node, OpenFlags, OptionsOf, Part, Right, Sees, ServerInfo, Sound, Taken, Task, TaskOf, UsersOf, World, apply, apply_all, edit_task, fresh, gives_text, header_at, home_at, info_at, info_in, is_dir, is_entered_at, is_held, keeps_tree, leads_on, namings, new_open, new_site, opening, server_at, shape_at, shape_by, stays, task_at, times_listed, tree_by, ways_of, with_port}
 use Rattle.hurd_creds.proofs.NameLaws.{get_here, get_apart}
 use Rattle.hurd_ports.specs.declared.parents.Parent.{Parent as Pair}
 use Rattle.hurd_ports.specs.Steps.{named}
@@ -134,7 +134,7 @@ module _ (w : World) (t : ℕ) (x : Task) (is : task_at w t ≡ Some x) (s : Nam
   nameless_whole {T} st tree fit up users sees =
       record {
         piece = piece_then (MakeNode n s node ∷ []) file_opened (tt, tt) (stands st) (record {
-          within = ((own, inr (inr new), inr (inr new), inr (inr new)), tt);
+          within = ((own, inr (inr new), inr (inr new), inr (inr new), inl (rw (lone.file, lone.links) refl)), tt);
           proper = ((next, record { info = i; is_server = server; tree = tree; shape = lone.shape; empty = lone.empty; parent = λ p e. absurd (cc (lone.alone, e)) }), λ one. tt);
           linked = made_linked c st.linked;
           filled = filled_made w n s node (λ j e. let same : i ≡ j = cc (server, e) in rw (← same) fit) st.filled;

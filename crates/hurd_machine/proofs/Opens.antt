@@ -1,6 +1,6 @@
 -- A port on a node with a new open, and a port that goes: as pieces of any call.
 use Rattle.std.proofs.Common.{◌≡◌, ◌⊎◌, ℕ, ◌<◌, ◌≤◌, Bool, true, false, List, [], ◌∷◌, Some, nat_lt, sym, refl, ◌∙◌, ap, subst, inl, inr, arith}
-use Rattle.hurd_machine.proofs.Common.{Below, BodyOf, CanBeWritten, Change, Coherent, Control, EditOpen, EditTask, IdSets, Io, IoRight, IsAmong, IsSettled, MakeOpen, Name, NodeState, OnDrop, OnRight, OpenFlags, OpenMap, OpenOf, Opened, Part, Right, Sound, Start, Task, TaskOf, UsersOf, WRITE, World, apply, apply_all, asks, count_rights, counts_at, counts_by, dropping, edit_task, fresh, get, insert, is_held, is_on, letting_go, names_open, new_open, new_right, open_at, open_of, opening, ports_of, right_in, rights_of, server_of, task_at, ways_of, without_port, EndsOf}
+use Rattle.hurd_machine.proofs.Common.{Below, CanBeWritten, Change, Coherent, Control, EditOpen, EditTask, IdSets, Io, IoRight, IsAmong, IsSettled, MakeOpen, Name, NodeState, OnDrop, OnRight, OpenFlags, OpenMap, OpenOf, Opened, Part, Right, Sound, Start, Task, TaskOf, UsersOf, WRITE, World, apply, apply_all, asks, count_rights, counts_at, counts_by, dropping, edit_task, fresh, get, insert, is_held, is_on, letting_go, names_open, new_open, new_right, open_at, open_of, opening, ports_of, right_in, rights_of, server_of, task_at, ways_of, without_port, EndsOf}
 use Rattle.hurd_creds.proofs.NameLaws.{equal_if_same, get_here}
 use Rattle.hurd_creds.proofs.AppendLaws.{append_read, append_write}
 use Rattle.hurd_ports.specs.declared.parents.Parent.{Parent as Pair}

@@ -1,6 +1,6 @@
 -- What a task is to start, as a piece of any call: alone, and where a server comes for it.
-use Rattle.std.proofs.Common.{◌≡◌, ℕ, Bool, true, [], ◌∷◌, Option, Some, None, refl, subst, inl, inr, arith}
-use Rattle.hurd_machine.proofs.Common.{Attach, AttrOf, BodyOf, EditTask, EmptyOf, IsAmong, Name, Node, OptionsOf, Part, PendingStart, Right, ServerInfo, Task, TaskOf, TextOf, World, empty, is_on, names_open, pending, start_of, task_at, with_pending, EndsOf}
+use Rattle.std.proofs.Common.{◌≡◌, ℕ, Bool, true, ◌∷◌, Option, Some, None, refl, subst, inl, inr, arith, []}
+use Rattle.hurd_machine.proofs.Common.{Attach, AttrOf, BodyOf, EditTask, EmptyOf, IsAmong, Name, Node, OptionsOf, Part, PendingStart, Right, ServerInfo, Task, TaskOf, TextOf, World, empty, is_on, names_open, pending, start_of, task_at, with_pending, EndsOf, TotalOf}
 use Rattle.hurd_ports.specs.Steps.{named}
 use Rattle.hurd_machine.proofs.Tasks.{edit_here}
 use Rattle.hurd_machine.proofs.Coherence.{Comes}
@@ -51,8 +51,8 @@ module _ {T : Part → Type 0} {v w : World} (s : Stands w) (t : ℕ) (p : Optio
 
 -- a server comes, whose root is like one that begins, for the task that was to start it, which then is to start nothing any more
 pub starts_whole : {T : Part → Type 0} {w : World} → Stands w → (s at : Name) (i : ServerInfo) (node : Node) → Comes w s at i node → Begun i node
-    → T (TaskOf s.task.0) → T (AttrOf i.root) → T (EmptyOf i.root) → T (BodyOf i.root) → T (EndsOf i.root) → T (AttrOf at) → T (OptionsOf s) → T (TextOf s) → AimsAtSeen s.task.0 w i → Whole s.task.0 T w w (Attach s at i node ∷ pending s.task.0 None)
-starts_whole st s at i node p b task attr empty body ends seat options text aims =
+    → T (TaskOf s.task.0) → T (AttrOf i.root) → T (EmptyOf i.root) → T (BodyOf i.root) → T (EndsOf i.root) → T (AttrOf at) → T (OptionsOf s) → T (TextOf s) → T (TotalOf s) → AimsAtSeen s.task.0 w i → Whole s.task.0 T w w (Attach s at i node ∷ pending s.task.0 None)
+starts_whole st s at i node p b task attr empty body ends seat options text total aims =
     settled (Attach s at i node ∷ EditTask s.task.0 (with_pending None) ∷ []) (tt, (tt, tt)) st
-    (piece_then (Attach s at i node ∷ []) (EditTask s.task.0 (with_pending None) ∷ []) (tt, tt) st (comes_piece st s at i node p b task attr empty body ends seat options text aims)
+    (piece_then (Attach s at i node ∷ []) (EditTask s.task.0 (with_pending None) ∷ []) (tt, tt) st (comes_piece st s at i node p b task attr empty body ends seat options text total aims)
     (λ d. pends_piece d s.task.0 None (named 2 p.next.seat) (edit_here s.task.0 (named 2) _ p.next.seat p.next.is_task) task tt (λ S ours. tt)))

@@ -66,11 +66,11 @@ bytes_may S v x n f = (inl (λ b c e. emptiness c ∙ e ∙ sym (emptiness b)), 
 pub size_may : (S : ℕ → Bool) (v : World) (n : Name) (k : ℕ) (h : Header) → Less S v n (with_size k h) h
 size_may S v n k h = less_same S v n (with_size k h) h refl refl refl refl (λ p e. inl e)
 
-edits_may : (S : ℕ → Bool) (v x : World) (n : Name) (bytes : Option (List ℕ → List ℕ)) (size : Option ℕ) → AllMay S v x (changes_of (edit_bytes n bytes (edit_size n size)))
-edits_may S v x n None None = tt
-edits_may S v x n None (Some k) = (λ h at. size_may S v n k h, tt)
-edits_may S v x n (Some f) None = (bytes_may S v x n f, tt)
-edits_may S v x n (Some f) (Some k) = (bytes_may S v x n f, (λ h at. size_may S v n k h, tt))
+edits_may : (S : ℕ → Bool) (v x : World) (n : Name) → SeenOrNew S v n → (bytes : Option (List ℕ → List ℕ)) (size : Option ℕ) → AllMay S v x (changes_of (edit_bytes n bytes (edit_size n size)))
+edits_may S v x n known None None = tt
+edits_may S v x n known None (Some k) = ((λ h at. size_may S v n k h, inr known), tt)
+edits_may S v x n known (Some f) None = (bytes_may S v x n f, tt)
+edits_may S v x n known (Some f) (Some k) = (bytes_may S v x n f, ((λ h at. size_may S v n k h, inr known), tt))
 
 edits_exact : (n : Name) (bytes : Option (List ℕ → List ℕ)) (size : Option ℕ) → AllExact (changes_of (edit_bytes n bytes (edit_size n size)))
 edits_exact n None None = tt
@@ -78,8 +78,8 @@ edits_exact n None (Some k) = (tt, tt)
 edits_exact n (Some f) None = (tt, tt)
 edits_exact n (Some f) (Some k) = (tt, (tt, tt))
 
-pub did_may : {T : Type 0} (S : ℕ → Bool) (v x : World) (n : Name) (d : Did T) → AllMay S v x (changes_of (edits_of n (Ok d)))
-did_may S v x n d = edits_may S v x n d.bytes d.size
+pub did_may : {T : Type 0} (S : ℕ → Bool) (v x : World) (n : Name) → SeenOrNew S v n → (d : Did T) → AllMay S v x (changes_of (edits_of n (Ok d)))
+did_may S v x n known d = edits_may S v x n known d.bytes d.size
 
 pub did_exact : {T : Type 0} (n : Name) (d : Did T) → AllExact (changes_of (edits_of n (Ok d)))
 did_exact n d = edits_exact n d.bytes d.size

@@ -5,7 +5,7 @@ use Rattle.hurd_machine.specs.World.{nodes_of}
 use Rattle.hurd_machine.proofs.Coherence.{AllProper}
 use Rattle.hurd_machine.proofs.Keeping.{apply_all-append, coherent_all, proper_append}
 use Rattle.hurd_machine.proofs.Settle.{AreQuiet, rests_quiet, settle_settled}
-use Rattle.hurd_machine.proofs.Frame.{AllWithin, within_append}
+use Rattle.hurd_machine.proofs.Frame.{AllWithin, within_append, Recounts}
 use Rattle.hurd_machine.proofs.Filled.{AreOfPorts, KeepsHeader, nodes-ports, filled_ports, filled_header, filled_settle}
 use Rattle.hurd_machine.proofs.Links.{linked_steady}
 use Rattle.hurd_machine.proofs.Swept.{settle_sound}
@@ -96,10 +96,10 @@ module _ {t : ℕ} {T : Part → Type 0} {v w : World} where
   }
 
   -- a header that keeps its kind, parent, links and size
-  pub of_header : (n : Name) (f : Header → Header) → ((h : Header) → ((f h).kind ≡ h.kind) × ((f h).parent ≡ h.parent) × ((f h).links ≡ h.links)) → ((h : Header) → (f h).size ≡ h.size) → KeepsHeader w n f → Stands w → T (AttrOf n)
+  pub of_header : (n : Name) (f : Header → Header) → ((h : Header) → ((f h).kind ≡ h.kind) × ((f h).parent ≡ h.parent) × ((f h).links ≡ h.links)) → ((h : Header) → (f h).size ≡ h.size) → KeepsHeader w n f → Stands w → T (AttrOf n) → Recounts T w n f
       → ((S : ℕ → Bool) → S t ≡ true → AllMay S v w (EditHeader n f ∷ [])) → Piece t T v w (EditHeader n f ∷ [])
-  of_header n f keeps size has s attr may = record {
-    within = (attr, tt);
+  of_header n f keeps size has s attr counts may = record {
+    within = ((attr, counts), tt);
     proper = (λ h is. ((keeps h).0, inl (keeps h).1), λ one. tt);
     linked = linked_steady (EditHeader n f ∷ []) w (keeps, tt) s.linked;
     filled = filled_header w n f size has s.filled;

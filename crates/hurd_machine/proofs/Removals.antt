@@ -2,7 +2,7 @@
 use Rattle.std.proofs.Common.{if◌then◌else◌, ◌≡◌, ◌≢◌, ◌∙◌, ℕ, ◌+◌, ◌-◌, ◌≤◌, Bool, true, false, ◌||◌, cond, List, [], ◌∷◌, Option, Some, None, nat_lt, sym, refl, ap, ap₂, subst, inl, inr, arith}
 use Rattle.std.proofs.lemmas.Bool.Decides.{nat_tests}
 use Rattle.std.proofs.lemmas.Slice.Eq.{bytes_eq-Decides}
-use Rattle.hurd_machine.proofs.Common.{AreDistinct, AttrOf, Body, BodyOf, Change, Coherent, Content, Dir, EditBody, EditHeader, EmptyOf, GoodBehaviour, HasDistinctNames, Header, IsShaped, Linked, Listing, Name, Node, NodeMap, Part, Sees, World, apply, apply_all, body_at, bytes_eq, count_list, edit, entry_in, entry_of, get, header_at, header_of, info_at, insert, is_dir, is_of, less_entry, list_any, lists, lists_at, one_if, same_name, times_in, times_listed, tree_by, unlinked, with_body, with_header, without_entry}
+use Rattle.hurd_machine.proofs.Common.{AreDistinct, AttrOf, Body, BodyOf, Change, Coherent, Content, Dir, EditBody, EditHeader, EmptyOf, GoodBehaviour, HasDistinctNames, Header, IsShaped, Linked, Listing, Name, Node, NodeMap, Part, Sees, World, apply, apply_all, body_at, bytes_eq, count_list, edit, entry_in, entry_of, get, header_at, header_of, info_at, insert, is_dir, is_of, less_entry, list_any, lists, lists_at, one_if, same_name, times_in, times_listed, tree_by, unlinked, with_body, with_header, without_entry, Seen}
 use Rattle.hurd_creds.proofs.NameLaws.{same_name-itself, same_name-apart, edit_found}
 use Rattle.hurd_trans_iface.specs.Nodes.{Entry}
 use Rattle.hurd_trans_iface.specs.Kinds.{ServerKind, behaviour_of}
@@ -17,6 +17,7 @@ use Rattle.hurd_machine.proofs.Relinks.{file_linked, dir_linked}
 use Rattle.hurd_machine.proofs.Piece.{Stands, Piece}
 use Rattle.std.specs.Option.{option_map}
 use Rattle.std.proofs.lemmas.Bool.{cases_Bool}
+use Rattle.hurd_machine.proofs.Frame.{Recounts, recounts_body}
 
 -- a directory with one entry less
 
@@ -240,13 +241,13 @@ module _ (d : Name) (name : List ℕ) (n : Name) where
     head_proper l h is = let same : m.header ≡ h = cc (still, is) in subst (λ (k : Header). ((unlinked k).kind ≡ k.kind) × MayMove cut cut.nodes n (unlinked k).parent k.parent) same (refl, may_move l)
 
   -- a task of S may take an entry out of a directory whose entries S sees
-  pub unlinking_piece : ((k : ServerKind) → GoodBehaviour (behaviour_of k)) → {t : ℕ} {T : Part → Type 0} {w : World} → Stands w → MayRemove w d name n → T (BodyOf d) → T (EmptyOf d) → T (AttrOf n)
-      → ((S : ℕ → Bool) → S t ≡ true → Sees S w (BodyOf d)) → Piece t T w w unlinking
-  unlinking_piece good {t} {T} {w} s m body empty attr sees = record {
-    within = ((body, inl empty), (attr, tt));
+  pub unlinking_piece : ((k : ServerKind) → GoodBehaviour (behaviour_of k)) → {t : ℕ} {T : Part → Type 0} {w : World} → Stands w → MayRemove w d name n → T (BodyOf d) → T (EmptyOf d) → T (AttrOf n) → Recounts T w n unlinked
+      → ((S : ℕ → Bool) → S t ≡ true → Sees S w (BodyOf d) × Seen S w n) → Piece t T w w unlinking
+  unlinking_piece good {t} {T} {w} s m body empty attr counts sees = record {
+    within = ((body, inl empty), ((attr, recounts_body T w d (without_entry name) n unlinked counts), tt));
     proper = (cut_proper w s.coherent d name, λ one. (head_proper w s.coherent m s.linked, λ two. tt));
     linked = left_linked w s.coherent m s.linked;
     filled = filled_append cutting (EditHeader n unlinked ∷ []) w (filled_removed good w d name) (filled_header (apply_all cutting w) n unlinked (λ h. refl) (tree_header (apply_all cutting w) n unlinked m.tree)) s.filled;
     held = s.held;
-    may = λ S ours. ((inr (inl (sees S ours)), λ b other m is e. inl (entry_of_before name other m b (distinct_at w s.coherent d b is) e)), ((λ h at. unlinked_less S w h), tt));
+    may = λ S ours. ((inr (inl (sees S ours).0), λ b other m is e. inl (entry_of_before name other m b (distinct_at w s.coherent d b is) e)), ((λ h at. unlinked_less S w h, inr (inl (sees S ours).1)), tt));
   }

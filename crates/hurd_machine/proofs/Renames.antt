@@ -190,7 +190,7 @@ module _ (d : Name) (name : List ℕ) (n e : Name) (new : List ℕ) where
       let listed = entry_lists name (body_at w d) n (ap (λ o. entry_of name (body_in o)) m.is_dir ∙ m.entry) in
       let into : tree_by (info_at w e) ≡ true = ap (λ o. tree_by (info_in w.servers o)) (sym m.kin) ∙ s.coherent.tree.trees d n listed in
       record {
-        within = ((body, inl empty), (attr, ((to, inl to_empty), tt)));
+        within = ((body, inl empty), ((attr, inr (inl (λ h is. refl))), ((to, inl to_empty), tt)));
         proper = going_proper w s.coherent m s.linked;
         linked = arrived_linked w s.coherent m s.linked;
         filled = filled_append (EditBody d (without_entry name) ∷ []) (EditHeader n (moved_to e) ∷ EditBody e (with_entry new n) ∷ []) w (filled_removed good w d name)
@@ -198,6 +198,6 @@ module _ (d : Name) (name : List ℕ) (n e : Name) (new : List ℕ) where
         held = s.held;
         may = λ S ours. let k = sees S ours in (
           (inr (inl k.0), λ b other m is h. inl (entry_of_before name other m b (distinct_at w s.coherent d b is) h)),
-          ((λ h at. turned_less S v h k.2 (λ dir. k.3 h (sym (edit_keeps header_in (with_body (without_entry name)) (header-with_body (without_entry name)) w.nodes d n) ∙ at) dir)), (entry_may S v two e new n (inl k.1), tt)),
+          ((λ h at. turned_less S v h k.2 (λ dir. k.3 h (sym (edit_keeps header_in (with_body (without_entry name)) (header-with_body (without_entry name)) w.nodes d n) ∙ at) dir), inl (λ h. refl)), (entry_may S v two e new n (inl k.1), tt)),
         );
       }

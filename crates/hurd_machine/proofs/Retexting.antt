@@ -1,7 +1,7 @@
 -- A server gets another text, and its nodes their sizes, as a piece of any call.
 use Rattle.std.proofs.Common.{◌≡◌, ◌≢◌, arith, length, map, ℕ, Bool, true, false, List, [], ◌∷◌, Option, Some, None, sym, refl, ◌∙◌, ap, subst, inl, inr}
 use Rattle.std.specs.Prelude.{is_some}
-use Rattle.hurd_machine.proofs.Common.{AreFilled, AttrOf, Change, Coherent, IsAmong, IsFilled, Name, NameMap, Node, NodeMap, TextOf, faced, known_text, Part, ServerInfo, SetText, Site, Sound, World, apply_all, changes_of, edit, edit_all, empty, entries, entries-insert, eq_by_cmp, get, get-empty, home_at, home_in, info_in, insert, is_home, list_any, name_cmp, own_nodes, put, retain_keys, retexting, server_at, size_of, sizing, with_header, with_size, with_text}
+use Rattle.hurd_machine.proofs.Common.{AreFilled, AttrOf, Change, Coherent, IsAmong, IsFilled, Name, NameMap, Node, NodeMap, TextOf, faced, known_text, Part, ServerInfo, SetText, Site, Sound, World, apply_all, changes_of, edit, edit_all, empty, entries, entries-insert, eq_by_cmp, get, get-empty, home_at, home_in, info_in, insert, is_home, list_any, name_cmp, own_nodes, put, retain_keys, retexting, server_at, size_of, sizing, with_header, with_size, with_text, Seen, info_at, tree_by}
 use Rattle.std.specs.Option.{option_map}
 use Rattle.std.specs.FinMap.{keys, contains_key-keys, len-entries, len-empty}
 use Rattle.hurd_nodes.proofs.Sites.{site-of}
@@ -25,6 +25,7 @@ use Rattle.hurd_machine.proofs.Permits.{size_may}
 use Rattle.hurd_machine.proofs.Piece.{Whole, whole_none, quiet}
 use Rattle.hurd_machine.proofs.Holders.{any_among, any_of}
 use Rattle.std.proofs.lemmas.Bool.{cases_Bool}
+use Rattle.hurd_machine.proofs.Confine.{SeenOrNew, Commands, commands_send, sends_root}
 
 -- the names in a map, as a list
 
@@ -117,12 +118,12 @@ module _ (k : ℕ) where
   sized_apart (q ∷ ns) m n out = sized_apart ns (edit q sized m) n (λ i. out (inr i)) ∙ edit_apart m q sized n (λ e. out (inl (sym e)))
 
   -- they write headers alone, may be made, take nothing away, leave how nodes hang, and what is open
-  sizes_piece : (T : Part → Type 0) (ns : List Name) (w : World) → ((n : Name) → IsAmong n ns → T (AttrOf n))
-      → AllWithin T w (sizes ns) × AllProper w (sizes ns) × AreQuiet w (sizes ns) × AreSteady (sizes ns) × ((S : ℕ → Bool) (v : World) → AllMay S v w (sizes ns)) × AllKeepHeld (sizes ns)
-  sizes_piece T [] w attrs = (tt, tt, tt, tt, λ S v. tt, tt)
-  sizes_piece T (n ∷ ns) w attrs =
-      let l = sizes_piece T ns (record w { nodes = edit n sized w.nodes }) (λ m i. attrs m (inr i)) in
-      ((attrs n (inl refl), l.0), (λ h is. (refl, inl refl), λ one. l.1), (λ h e. e, l.2), (λ h. (refl, refl, refl), l.3), λ S v. (λ h is. size_may S v n k h, l.4 S v), (tt, l.5))
+  sizes_piece : (T : Part → Type 0) (ns : List Name) (w : World) → ((n : Name) → IsAmong n ns → T (AttrOf n)) → ((n : Name) → IsAmong n ns → tree_by (info_at w n) ≡ false)
+      → AllWithin T w (sizes ns) × AllProper w (sizes ns) × AreQuiet w (sizes ns) × AreSteady (sizes ns) × ((S : ℕ → Bool) (v : World) → ((n : Name) → IsAmong n ns → SeenOrNew S v n) → AllMay S v w (sizes ns)) × AllKeepHeld (sizes ns)
+  sizes_piece T [] w attrs lone = (tt, tt, tt, tt, λ S v known. tt, tt)
+  sizes_piece T (n ∷ ns) w attrs lone =
+      let l = sizes_piece T ns (record w { nodes = edit n sized w.nodes }) (λ m i. attrs m (inr i)) (λ m i. lone m (inr i)) in
+      (((attrs n (inl refl), inl (lone n (inl refl))), l.0), (λ h is. (refl, inl refl), λ one. l.1), (λ h e. e, l.2), (λ h. (refl, refl, refl), l.3), λ S v known. ((λ h is. size_may S v n k h, inr (known n (inl refl))), l.4 S v (λ m i. known m (inr i))), (tt, l.5))
 
 -- the whole piece
 
@@ -167,19 +168,24 @@ module _ (w : World) (s : Name) (i : ServerInfo) where
               fit n x j (sym (sized_apart (size_of i.kind text) own w.nodes n other) ∙ e)
               (ap (info_in w.servers) home ∙ sym (edit_apart w.servers s (with_text text) q apart) ∙ sym (ap (info_in left.servers) home) ∙ ej)
 
-  pub retexts_whole : {t : ℕ} {T : Part → Type 0} → Sound w → server_at w s ≡ Some i → (o : Option (List ℕ)) → MayGet o → T (TextOf s) → T (AttrOf i.root) → Whole t T w w (retexting w s i o)
-  retexts_whole {t} {T} st is None keeps options attr = whole_none st
-  retexts_whole {t} {T} st is (Some text) keeps options attr =
+  pub retexts_whole : {t : ℕ} {T : Part → Type 0} → Sound w → server_at w s ≡ Some i → (o : Option (List ℕ)) → MayGet o → T (TextOf s) → T (AttrOf i.root) → ((S : ℕ → Bool) → S t ≡ true → Commands S w s) → Whole t T w w (retexting w s i o)
+  retexts_whole {t} {T} st is None keeps options attr commands = whole_none st
+  retexts_whole {t} {T} st is (Some text) keeps options attr commands =
       let k : ℕ = size_of i.kind text in
       let set : World = record w { servers = edit s (with_text text) w.servers } in
-      let l = sizes_piece k T own set (λ n among. subst (λ m. T (AttrOf m)) (sym (root_alone st.coherent is text keeps n (own_home s n w.sites among))) attr) in
+      let l = sizes_piece k T own set (λ n among. subst (λ m. T (AttrOf m)) (sym (root_alone st.coherent is text keeps n (own_home s n w.sites among))) attr) (λ n among.
+      ap (λ o. tree_by (info_in set.servers o)) (own_home s n w.sites among) ∙ ap tree_by (edit_here w.servers s (with_text text) ∙ ap (option_map (with_text text)) is) ∙ (keeps text refl).lone) in
       quiet (retexting w s i (Some text)) (tt, l.2) st (record {
         within = ((options, unseen), l.0);
         proper = (fits, λ one. l.1);
         linked = linked_steady (retexting w s i (Some text)) w (tt, l.3) st.linked;
         filled = retexts_filled st.coherent is text keeps st.filled;
         held = held_all (retexting w s i (Some text)) w (tt, l.5) st.settled.opens;
-        may = λ S ours. (tt, l.4 S w);
+        may = λ S ours. (
+          tt,
+          l.4 S w (λ n among.
+              inl (subst (Seen S w) (sym (root_alone st.coherent is text keeps n (own_home s n w.sites among))) (sends_root S w s i is (commands_send S w s i is (commands S ours))))),
+        );
       })
     where
       -- its readers alone were given the text that it had, and are given this one

@@ -1,6 +1,6 @@
 -- What each part of a world is after a server came or went, or lost its seat.
-use Rattle.std.proofs.Common.{◌≡◌, ◌≢◌, ◌⊎◌, ℕ, not, Bool, true, false, cond, List, [], ◌∷◌, Option, Some, None, slice_get, sym, refl, ◌∙◌, ap, ap₂, subst, inl, inr, arith}
-use Rattle.hurd_machine.proofs.Common.{ABody, ATask, AUsers, AnEmpty, AnOpen, AnOptions, AttrOf, Below, BodyOf, Coherent, Control, DropServer, EmptyOf, Io, IoRight, IsAmong, Name, Node, OpenOf, OptionsOf, Part, Right, ServerInfo, Start, Task, TaskOf, TextOf, AText, Unseat, UsersOf, World, active_at, apply, count_list, count_rights, edit_task, get, holders, home_at, insert, is_home, is_on, is_other, names_open, new_site, open_at, part, rights_of, server_at, site_at, users, vacated, with_active, body_at, ends_at, ends_of, info_at, counts_by, info_in, EndsOf, AnEnds}
+use Rattle.std.proofs.Common.{◌≡◌, ◌≢◌, ◌⊎◌, ℕ, not, Bool, true, false, cond, List, [], ◌∷◌, Option, Some, None, slice_get, sym, refl, ◌∙◌, ap, ap₂, subst, inl, inr, arith, ◌+◌}
+use Rattle.hurd_machine.proofs.Common.{ABody, ATask, AUsers, AnEmpty, AnOpen, AnOptions, AttrOf, Below, BodyOf, Coherent, Control, DropServer, EmptyOf, Io, IoRight, IsAmong, Name, Node, OpenOf, OptionsOf, Part, Right, ServerInfo, Start, Task, TaskOf, TextOf, AText, Unseat, UsersOf, World, active_at, apply, count_list, count_rights, edit_task, get, holders, home_at, insert, is_home, is_on, is_other, names_open, new_site, open_at, part, rights_of, server_at, site_at, users, vacated, with_active, ends_at, ends_of, info_at, counts_by, info_in, EndsOf, AnEnds, ATotal, TotalOf, NameMap, Site, counts_for, total_if, total_at, tree_by, edit}
 use Rattle.std.specs.Option.{option_map}
 use Rattle.hurd_machine.proofs.Faces.{face_in, text_in}
 use Rattle.hurd_nodes.proofs.Sites.{home-here, home-was, home-stays, home-edited, none-left, site-left, home_by}
@@ -14,8 +14,9 @@ use Rattle.hurd_machine.proofs.Nodes.{attr_same, header_in, body_in, empty_in, e
 use Rattle.hurd_creds.proofs.Retained.{get-retained}
 use Rattle.hurd_machine.proofs.Tasks.{count_named, count_alike, edit_same}
 use Rattle.hurd_machine.proofs.Coherence.{IsNext, Comes, none_if, unnoded}
-use Rattle.hurd_machine.proofs.Comes.{come_world, info_same, root_new, come_home}
+use Rattle.hurd_machine.proofs.Comes.{come_world, info_same, root_new, come_home, no_root, come_new, none_served}
 use Rattle.hurd_machine.proofs.Ends.{ends_by, ends_fresh, ends_gone, ends_same}
+use Rattle.hurd_machine.proofs.Totals.{total_homes, total_made, total_unmade, total_left, total_empty, own_total}
 
 -- a part that says what is in a node, or who has it open
 abbrev pub IsInside : Name → Part → Type 0
@@ -56,6 +57,10 @@ unused w s none = count_alike (is_on w s) (λ r. false) w.tasks (λ t x r at i. 
     on (Control q) = refl
     on (Start n) = refl
 
+-- nodes of a server that has none count for nothing
+total_nothing : (w : World) → Coherent w → (s : Name) → (Below w s → ⊥) → own_total w.nodes w.sites s ≡ 0
+total_nothing w c s new = total_empty w.nodes w.sites s (λ n e. none_served w c s new n s e refl)
+
 -- a server that came
 
 module _ (w : World) (c : Coherent w) (s at : Name) (i : ServerInfo) (node : Node) (p : Comes w s at i node) where
@@ -68,20 +73,36 @@ module _ (w : World) (c : Coherent w) (s at : Name) (i : ServerInfo) (node : Nod
   come_users : (q : Name) → users come q ≡ users w q
   come_users q = users_named w come c s p.next 2 i.root (root_new w c s at i node p) (come_home w c s at i node p) refl q
 
+  -- its seat has the home that it had, and only its root is new
+  abbrev come_sites : NameMap Site
+  come_sites = insert w.sites i.root (new_site s)
+
+  come_sum : (q : Name) → own_total come.nodes come.sites q ≡ own_total (insert w.nodes i.root node) come_sites q
+  come_sum q = total_homes (insert w.nodes i.root node) come_sites q come.sites (λ n. home-edited come_sites at (Some s) n)
+
+  come_total : (q : Name) → q ≢ s → own_total come.nodes come.sites q ≡ own_total w.nodes w.sites q
+  come_total q apart = come_sum q ∙ total_unmade w.nodes w.sites q i.root s node (no_root w c s at i node p) apart
+
+  come_own : own_total come.nodes come.sites s ≡ own_total w.nodes w.sites s + counts_for node.header
+  come_own = come_sum s ∙ total_made w.nodes w.sites s i.root s node (no_root w c s at i node p) refl
+
   -- it leaves all parts but those that are its own, and its seat's
-  pub come_parts : (k : Part) → k ≢ TaskOf s.task.0 → k ≢ AttrOf i.root → k ≢ EmptyOf i.root → k ≢ BodyOf i.root → k ≢ EndsOf i.root → k ≢ AttrOf at → k ≢ OptionsOf s → k ≢ TextOf s → part come k ≡ part w k
-  come_parts (AttrOf n) task attr emptiness body ends seat options text =
+  pub come_parts : (k : Part) → k ≢ TaskOf s.task.0 → k ≢ AttrOf i.root → k ≢ EmptyOf i.root → k ≢ BodyOf i.root → k ≢ EndsOf i.root → k ≢ AttrOf at → k ≢ OptionsOf s → k ≢ TextOf s → k ≢ TotalOf s → part come k ≡ part w k
+  come_parts (AttrOf n) task attr emptiness body ends seat options text total =
       let apart : n ≢ i.root = λ e. attr (ap AttrOf e) in
       attr_same (ap header_in (get_apart w.nodes i.root node n apart))
       (edit_apart (insert w.sites i.root (new_site s)) at (with_active (Some s)) n (λ e. seat (ap AttrOf e)) ∙ get_apart w.sites i.root (new_site s) n apart)
-  come_parts (EmptyOf n) task attr emptiness body ends seat options text = ap (λ (o : Option Node). AnEmpty (empty_in o)) (get_apart w.nodes i.root node n (λ e. emptiness (ap EmptyOf e)))
-  come_parts (BodyOf n) task attr emptiness body ends seat options text = ap (λ (o : Option Node). ABody (body_in o)) (get_apart w.nodes i.root node n (λ e. body (ap BodyOf e)))
-  come_parts (EndsOf n) task attr emptiness body ends seat options text = ap AnEnds (ends_same w come n (info_same w c s at i node p n (λ e. ends (ap EndsOf e))) refl)
-  come_parts (OpenOf o) task attr emptiness body ends seat options text = ap (AnOpen (open_at w o)) (come_holders o)
-  come_parts (OptionsOf q) task attr emptiness body ends seat options text = ap (λ o. AnOptions (face_in o)) (get_apart w.servers s i q (λ e. options (ap OptionsOf e)))
-  come_parts (TextOf q) task attr emptiness body ends seat options text = ap (λ o. AText (text_in o)) (get_apart w.servers s i q (λ e. text (ap TextOf e)))
-  come_parts (UsersOf q) task attr emptiness body ends seat options text = ap AUsers (come_users q)
-  come_parts (TaskOf t) task attr emptiness body ends seat options text = ap ATask (edit-apart s.task.0 (named 2) w.tasks t (λ e. task (ap TaskOf e)))
+  come_parts (EmptyOf n) task attr emptiness body ends seat options text total = ap (λ (o : Option Node). AnEmpty (empty_in o)) (get_apart w.nodes i.root node n (λ e. emptiness (ap EmptyOf e)))
+  come_parts (BodyOf n) task attr emptiness body ends seat options text total = ap (λ (o : Option Node). ABody (body_in o)) (get_apart w.nodes i.root node n (λ e. body (ap BodyOf e)))
+  come_parts (EndsOf n) task attr emptiness body ends seat options text total = ap AnEnds (ends_same w come n (info_same w c s at i node p n (λ e. ends (ap EndsOf e))) refl)
+  come_parts (OpenOf o) task attr emptiness body ends seat options text total = ap (AnOpen (open_at w o)) (come_holders o)
+  come_parts (OptionsOf q) task attr emptiness body ends seat options text total = ap (λ o. AnOptions (face_in o)) (get_apart w.servers s i q (λ e. options (ap OptionsOf e)))
+  come_parts (TextOf q) task attr emptiness body ends seat options text total = ap (λ o. AText (text_in o)) (get_apart w.servers s i q (λ e. text (ap TextOf e)))
+  come_parts (UsersOf q) task attr emptiness body ends seat options text total = ap AUsers (come_users q)
+  come_parts (TotalOf q) task attr emptiness body ends seat options text total =
+      let apart : q ≢ s = λ e. total (ap TotalOf e) in
+      ap ATotal (ap₂ (λ o k. total_if (tree_by o) k) (get_apart w.servers s i q apart) (come_total q apart))
+  come_parts (TaskOf t) task attr emptiness body ends seat options text total = ap ATask (edit-apart s.task.0 (named 2) w.tasks t (λ e. task (ap TaskOf e)))
 
   -- its root is its own, and has never been opened
 
@@ -115,6 +136,14 @@ module _ (x y : World) (cx : Coherent x) (cy : Coherent y) (s at : Name) (i : Se
   come_alike (OptionsOf q) e = ap AnOptions (insert_alike face_in x.servers y.servers s q i (cc))
   come_alike (TextOf q) e = ap AText (insert_alike text_in x.servers y.servers s q i (cc))
   come_alike (UsersOf q) e = let used : users y q ≡ users x q = cc in ap AUsers (come_users y cy s at i node py q ∙ used ∙ sym (come_users x cx s at i node px q))
+  come_alike (TotalOf q) e = ap ATotal (elim (same_or_apart q s) [
+    | inl same ↦ rw same (ap₂ (λ o k. total_if (tree_by o) k) (get_here y.servers s i ∙ sym (get_here x.servers s i))
+        (come_own y cy s at i node py ∙ ap (λ k. k + counts_for node.header) (total_nothing y cy s (come_new y cy s at i node py) ∙ sym (total_nothing x cx s (come_new x cx s at i node px))) ∙ sym (come_own x cx s at i node px)))
+    | inr apart ↦
+        let before : total_at y q ≡ total_at x q = cc (e) in
+        ap₂ (λ o k. total_if (tree_by o) k) (get_apart y.servers s i q apart) (come_total y cy s at i node py q apart) ∙ before
+        ∙ sym (ap₂ (λ o k. total_if (tree_by o) k) (get_apart x.servers s i q apart) (come_total x cx s at i node px q apart))
+  ])
   come_alike (TaskOf t) e = ap ATask (edit_same s.task.0 (named 2) x.tasks y.tasks t (cc))
 
 -- a server that went
@@ -167,6 +196,7 @@ module _ (w : World) (s : Name) where
   drop_parts (OptionsOf q) out = ap (λ o. AnOptions (face_in o)) (server_apart q out)
   drop_parts (TextOf q) out = ap (λ o. AText (text_in o)) (server_apart q out)
   drop_parts (UsersOf q) out = ap AUsers (users_apart q out)
+  drop_parts (TotalOf q) out = ap ATotal (ap₂ (λ o k. total_if (tree_by o) k) (server_apart q out) (total_left w.nodes w.sites q s out))
   drop_parts (TaskOf t) out = refl
 
   -- a server that went has no users
@@ -224,6 +254,13 @@ module _ (x y : World) (s : Name) where
     | inl same ↦ rw same (users_gone y s ∙ sym (users_gone x s))
     | inr apart ↦ let used : users y q ≡ users x q = cc (e) in users_apart y s q apart ∙ used ∙ sym (users_apart x s q apart)
   ])
+  drop_alike (TotalOf q) homes e = ap ATotal (elim (same_or_apart q s) [
+    | inl same ↦ rw same (ap (λ o. total_if (tree_by o) (own_total left_y.nodes left_y.sites s)) (remove_here y.servers s) ∙ sym (ap (λ o. total_if (tree_by o) (own_total left_x.nodes left_x.sites s)) (remove_here x.servers s)))
+    | inr apart ↦
+        let before : total_at y q ≡ total_at x q = cc (e) in
+        ap₂ (λ o k. total_if (tree_by o) k) (server_apart y s q apart) (total_left y.nodes y.sites q s apart) ∙ before
+        ∙ sym (ap₂ (λ o k. total_if (tree_by o) k) (server_apart x s q apart) (total_left x.nodes x.sites q s apart))
+  ])
   drop_alike (TaskOf t) homes e = e
 
 -- a server that lost its seat
@@ -234,14 +271,19 @@ unseated_users w n s = users_by w (apply (Unseat n) w) s w.tasks (λ t x r at i.
 unseated_ends : (w : World) (n m : Name) → ends_at (apply (Unseat n) w) m ≡ ends_at w m
 unseated_ends w n m = ends_same w (apply (Unseat n) w) m (ap (info_in w.servers) (home-edited w.sites n None m)) refl
 
+unseated_total : (w : World) (n s : Name) → total_at (apply (Unseat n) w) s ≡ total_at w s
+unseated_total w n s = ap (total_if (tree_by (server_at w s))) (total_homes w.nodes w.sites s (edit n (with_active None) w.sites) (home-edited w.sites n None))
+
 pub unseated_parts : (w : World) (n : Name) (k : Part) → k ≢ AttrOf n → part (apply (Unseat n) w) k ≡ part w k
 unseated_parts w n (AttrOf m) out = attr_same refl (edit_apart w.sites n (with_active None) m (λ e. out (ap AttrOf e)))
 unseated_parts w n (EndsOf m) out = ap AnEnds (unseated_ends w n m)
 unseated_parts w n (UsersOf s) out = ap AUsers (unseated_users w n s)
+unseated_parts w n (TotalOf s) out = ap ATotal (unseated_total w n s)
 unseated_parts w n k out = refl
 
 pub unseated_alike : (x y : World) (n : Name) (k : Part) → part y k ≡ part x k → part (apply (Unseat n) y) k ≡ part (apply (Unseat n) x) k
 unseated_alike x y n (AttrOf m) e = attr_same (cc) (edit_alike (λ z. z) (option_map (with_active None)) (with_active None) (λ o. refl) x.sites y.sites n m (cc))
 unseated_alike x y n (EndsOf m) e = let same : ends_at y m ≡ ends_at x m = cc in ap AnEnds (unseated_ends y n m ∙ same ∙ sym (unseated_ends x n m))
 unseated_alike x y n (UsersOf s) e = let used : users y s ≡ users x s = cc in ap AUsers (unseated_users y n s ∙ used ∙ sym (unseated_users x n s))
+unseated_alike x y n (TotalOf s) e = let before : total_at y s ≡ total_at x s = cc (e) in ap ATotal (unseated_total y n s ∙ before ∙ sym (unseated_total x n s))
 unseated_alike x y n k e = e

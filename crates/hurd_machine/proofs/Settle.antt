@@ -1,7 +1,7 @@
 -- A world is settled once what nothing names is gone: who sees it sees the same; and changes that leave a world settled.
-use Rattle.std.proofs.Common.{◌≡◌, ◌⊎◌, ℕ, Bool, true, List, [], ◌∷◌, Option, Some, None, slice_get, nat_lt, sym, refl, ◌∙◌, ap, ap₂, subst, inl, inr}
+use Rattle.std.proofs.Common.{◌≡◌, ◌⊎◌, ℕ, Bool, true, List, [], ◌∷◌, Option, Some, None, slice_get, sym, refl, ◌∙◌, ap, ap₂, subst, inl, inr, true≢false}
 use Rattle.std.specs.Option.{option_map}
-use Rattle.hurd_machine.proofs.Common.{ABody, AUsers, Active, AnAttr, AnEmpty, AnOpen, AnOptions, AtRest, Attach, AttrOf, Body, BodyOf, Change, Child, Coherent, DropServer, EditBody, EditHeader, EditOpen, EditTask, EmptyOf, Header, Holds, IdSets, Io, IoRight, IsAmong, IsGone, IsSettled, Knows, LetGo, Linked, MakeNode, MakeOpen, Name, Node, NodeMap, NodeState, OfControl, OfNode, OfSeat, OpenFlags, OpenOf, OptionsOf, Part, Pending, Seen, Sees, Send, ServerInfo, ServerRoot, SetText, Settle, Site, Start, Target, Task, TaskOf, TextOf, AText, faced, Unseat, UsersOf, Way, World, apply, apply_all, body_at, edit, edit_task, ends_at, fresh, get, header_at, holders, home_at, info_at, info_in, is_empty_dir, is_entered, is_entered_at, is_held, is_home, namings, new_open, new_right, new_site, open_at, outside, part, opening, ports_of, server_at, site_at, stays, task_at, users, with_body, with_header, with_port, with_sent, with_text, world_from, EndsOf, AnEnds}
+use Rattle.hurd_machine.proofs.Common.{ABody, AUsers, Active, AnAttr, AnEmpty, AnOptions, AtRest, Attach, AttrOf, Body, BodyOf, Change, Child, Coherent, DropServer, EditBody, EditHeader, EditOpen, EditTask, EmptyOf, Header, Holds, IdSets, Io, IoRight, IsAmong, IsGone, IsSettled, Knows, LetGo, Linked, MakeNode, MakeOpen, Name, Node, NodeMap, NodeState, OfControl, OfNode, OfSeat, OpenFlags, OpenOf, OptionsOf, Part, Pending, Seen, Sees, Send, ServerInfo, ServerRoot, SetText, Settle, Site, Start, Target, Task, TaskOf, TextOf, AText, faced, Unseat, UsersOf, Way, World, apply, apply_all, body_at, edit, edit_task, ends_at, fresh, get, header_at, home_at, info_at, info_in, is_empty_dir, is_entered, is_entered_at, is_held, is_home, namings, new_open, new_right, new_site, outside, part, opening, ports_of, server_at, site_at, stays, task_at, users, with_body, with_header, with_port, with_sent, with_text, EndsOf, AnEnds, ATotal, TotalOf, total_if, total_at, tree_by}
 use Rattle.hurd_machine.proofs.Sites.{seat_kept}
 use Rattle.hurd_nodes.proofs.Sites.{home-here, home-apart, home_by}
 use Rattle.hurd_creds.proofs.NameLaws.{same_or_apart, get_here, get_apart, edit_here, edit_apart}
@@ -12,8 +12,7 @@ use Rattle.hurd_ports.specs.declared.parents.Parent.{Parent as Pair}
 use Rattle.hurd_ports.specs.Tables.{nodes_of as nodes_named}
 use Rattle.hurd_ports.specs.Steps.{named}
 use Rattle.hurd_machine.specs.World.{nodes_of}
-use Rattle.hurd_machine.specs.Sight.{Root, Held, Controlled, Parent}
-use Rattle.hurd_machine.specs.Sight.{Value}
+use Rattle.hurd_machine.specs.Sight.{Root, Held, Controlled, Parent, Value}
 use Rattle.hurd_machine.specs.Change.{server_stays, settle}
 use Rattle.hurd_machine.proofs.Nodes.{attr_same, header_in, body_in, empty_in, none_mapped, edit_keeps, was_edited}
 use Rattle.hurd_machine.proofs.Tasks.{sent_keeps, edit_here as task_here}
@@ -26,9 +25,10 @@ use Rattle.hurd_machine.proofs.Swept.{root_stays, boot_stays, entry_stays, paren
 use Rattle.hurd_machine.proofs.Coherence.{was, entry_lists, home_server}
 use Rattle.hurd_machine.proofs.Texts.{server_was, held_yet, stays_kept}
 use Rattle.hurd_machine.proofs.Rights.{port_keeps, port_has}
-use Rattle.hurd_machine.proofs.Views.{Agree, Agree-refl, Agree-trans, text_known}
+use Rattle.hurd_machine.proofs.Views.{Agree, Agree-refl, Agree-trans, knows_of, text_known}
 use Rattle.hurd_machine.proofs.Faces.{face_in, text_in}
 use Rattle.hurd_machine.proofs.ServerParts.{users_by}
+use Rattle.hurd_machine.proofs.Totals.{total_swept, unentered_none, own_total}
 
 -- what is left once a world is settled stays
 
@@ -49,6 +49,17 @@ users_still w c s = users_by w (sweep w) s w.tasks (λ t x r at i. ap (λ o. is_
     let home = ap home_by e in
     let k = home_server c r.node site.home home in
     stays_named w t x (Io r) r.node site.home k.0 at i (inl refl) home k.1)))
+
+-- what goes while its server stays counts for nothing
+total_after : (w : World) (s : Name) → server_at (sweep w) s ≡ server_at w s → server_stays w s ≡ true → total_at (sweep w) s ≡ total_at w s
+total_after w s same lives = ap (λ o. total_if (tree_by o) (own_total (sweep w).nodes (sweep w).sites s)) same ∙ go (server_at w s) refl
+  where
+    go : (o : Option ServerInfo) → server_at w s ≡ o → total_if (tree_by o) (own_total (sweep w).nodes (sweep w).sites s) ≡ total_if (tree_by o) (own_total w.nodes w.sites s)
+    go None e = refl
+    go (Some i) e = ap (total_if (tree_by (Some i))) (total_swept w.nodes w.sites s (stays w) (λ n x out home is. elim (cases_Bool (is_entered x.header)) [
+      | inl entered ↦ let kept = stays_entered w n s i home e lives (ap is_entered_at is ∙ entered) in absurd (true≢false (sym kept ∙ out))
+      | inr loose ↦ unentered_none x.header loose
+    ]))
 
 -- what S sees stays
 module _ (S : ℕ → Bool) (w : World) (c : Coherent w) (l : Linked (nodes_of w)) where
@@ -115,6 +126,7 @@ module _ (S : ℕ → Bool) (w : World) (c : Coherent w) (l : Linked (nodes_of w
       same (OptionsOf q) s = ap (λ o. AnOptions (face_in o)) (retained w.servers (server_stays w) q (known_lives q s))
       same (TextOf q) s = ap (λ o. AText (text_in o)) (retained w.servers (server_stays w) q (known_lives q (text_known S w q s.0 s.2)))
       same (UsersOf q) s = ap AUsers (users_still w c q)
+      same (TotalOf q) s = let lives = known_lives q (knows_of S w q s.info s.why) in ap ATotal (total_after w q (retained w.servers (server_stays w) q lives) lives)
       same (TaskOf t) s = refl
 
 -- who sees a world sees the same once it is settled
@@ -150,6 +162,10 @@ module _ (x : World) (c : Coherent x) where
   sweep_part (OptionsOf s) = sweep_server (λ o. AnOptions (face_in o)) s
   sweep_part (TextOf s) = sweep_server (λ o. AText (text_in o)) s
   sweep_part (UsersOf s) = inl (ap AUsers (users_still x c s))
+  sweep_part (TotalOf s) = elim (cases_Bool (server_stays x s)) [
+    | inl k ↦ inl (ap ATotal (total_after x s (retained x.servers (server_stays x) s k) k))
+    | inr k ↦ inr (ap ATotal (ap (λ o. total_if (tree_by o) (own_total (sweep x).nodes (sweep x).sites s)) (dropped x.servers (server_stays x) s k)))
+  ]
   sweep_part (TaskOf t) = inl refl
 
 -- what is gone doesn't come back by it
@@ -163,6 +179,10 @@ sweep_gone x (EndsOf n) e =
     ap AnEnds (elim (cases_Bool (stays x n)) [ inl k ↦ ends_same x (sweep x) n (info_still x n k) refl ∙ ends | inr k ↦ ends_gone (sweep x) n (ap home_by (dropped x.sites (stays x) n k)) ])
 sweep_gone x (OptionsOf s) e = ap (λ o. AnOptions (face_in o)) (none_retained x.servers (server_stays x) s (none_mapped faced (server_at x s) (cc)))
 sweep_gone x (TextOf s) e = ap (λ o. AText (text_in o)) (none_retained x.servers (server_stays x) s (none_mapped (λ (i : ServerInfo). i.text) (server_at x s) (cc)))
+sweep_gone x (TotalOf s) e = ap ATotal (elim (cases_Bool (server_stays x s)) [
+  | inl k ↦ total_after x s (retained x.servers (server_stays x) s k) k ∙ cc (e)
+  | inr k ↦ ap (λ o. total_if (tree_by o) (own_total (sweep x).nodes (sweep x).sites s)) (dropped x.servers (server_stays x) s k)
+])
 sweep_gone x p e = absurd e
 
 -- a part that a settled world has unchanged in another keeps that value where this is settled, or its thing goes

@@ -1,7 +1,7 @@
 -- Changes one after another, settling among them: they show the same in worlds that agree.
 use Rattle.std.proofs.Common.{Some, ◌≡◌, ℕ, Bool, false, List, [], ◌∷◌, Option, sym, refl, ◌∙◌, ap, ap₂, subst, inl, inr}
 use Rattle.hurd_machine.proofs.Faces.{face_in, text_in}
-use Rattle.hurd_machine.proofs.Common.{ABody, AUsers, AnEmpty, AnOpen, AnOptions, AttrOf, Below, BodyOf, Change, Coherent, Control, EmptyOf, Io, IsAmong, Linked, Name, Node, OpenOf, OptionsOf, Part, Right, Settle, Start, Task, TaskOf, TextOf, AText, UsersOf, World, apply, apply_all, holders, names_open, part, rights_of, task_at, users, EndsOf, AnEnds}
+use Rattle.hurd_machine.proofs.Common.{ABody, AUsers, AnEmpty, AnOpen, AnOptions, AttrOf, Below, BodyOf, Change, Coherent, Control, EmptyOf, Io, IsAmong, Linked, Name, Node, OpenOf, OptionsOf, Part, Right, Settle, Start, Task, TaskOf, TextOf, AText, UsersOf, World, apply, apply_all, holders, names_open, part, rights_of, task_at, users, EndsOf, AnEnds, ATotal, TotalOf, total_if, tree_by}
 use Rattle.hurd_creds.proofs.NameLaws.{same_name-apart}
 use Rattle.hurd_machine.specs.World.{nodes_of}
 use Rattle.hurd_machine.specs.Change.{settle}
@@ -18,6 +18,7 @@ use Rattle.hurd_machine.proofs.Settle.{settle_agrees}
 use Rattle.hurd_machine.proofs.Confine.{NewTo, NewPart, Inside, Inside-refl, sees_inside}
 use Rattle.hurd_machine.proofs.Allowed.{May, inside_one}
 use Rattle.hurd_machine.proofs.Mirror.{Mirror, part_same}
+use Rattle.hurd_machine.proofs.Totals.{own_total}
 
 -- each change may be made in the world that the ones before it leave; once a world settled, what S saw is of that world
 abbrev pub AllMay : (ℕ → Bool) → World → World → List Change → Type 0
@@ -55,6 +56,8 @@ new_same {S} {v} {w} cv cw a (OpenOf o) new =
 new_same {S} {v} {w} cv cw a (OptionsOf s) new = ap (λ o. AnOptions (face_in o)) (no_server cw s (new_there a s new) ∙ sym (no_server cv s new.1))
 new_same {S} {v} {w} cv cw a (TextOf s) new = ap (λ o. AText (text_in o)) (no_server cw s (new_there a s new) ∙ sym (no_server cv s new.1))
 new_same {S} {v} {w} cv cw a (UsersOf s) new = ap AUsers (no_users w cw s (new_there a s new) ∙ sym (no_users v cv s new.1))
+new_same {S} {v} {w} cv cw a (TotalOf s) new =
+    ap ATotal (ap (λ o. total_if (tree_by o) (own_total w.nodes w.sites s)) (no_server cw s (new_there a s new)) ∙ sym (ap (λ o. total_if (tree_by o) (own_total v.nodes v.sites s)) (no_server cv s new.1)))
 new_same cv cw a (TaskOf t) new = absurd new
 
 mirror_start : (S : ℕ → Bool) (v w : World) → Coherent v → Coherent w → Agree S v w → Mirror S v v w

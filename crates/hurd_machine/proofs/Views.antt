@@ -1,7 +1,7 @@
 -- What a set of tasks sees is settled by the parts that it sees: where those are the same in two worlds, it sees the same
 -- parts in both.
 use Rattle.std.proofs.Common.{List, ◌≡◌, inl, inr, ℕ, Bool, true, Some, sym, refl, ◌∙◌, ap, length, Option, None}
-use Rattle.hurd_machine.proofs.Common.{Active, Allowed, AttrOf, BodyOf, ByBody, ByControl, ByNode, ByParent, BySeat, Child, Control, Could, CouldServe, EmptyOf, Exec, GidOfRight, GidOfTask, HasGid, HasUid, Header, Holds, IdSets, Io, IoRight, IsOpen, Knows, Name, OfControl, OfNode, OfSeat, OpenOf, OptionsOf, Owns, Part, Pending, Read, Right, SameView, Seen, Sees, SeesBody, SeesEmpty, Sends, ServerInfo, ServerRoot, Start, Taken, Target, TaskOf, SeesText, TextOf, InRoot, ToControl, with_text, ToPut, ToRead, ToSearch, UidOfRight, UidOfTask, UsersOf, Want, Way, World, Write, active_at, body_at, counts_at, counts_by, entry_of, header_at, home_at, info_in, open_at, part, server_at, task_at, tells, EndsOf, SeesInside}
+use Rattle.hurd_machine.proofs.Common.{Active, Allowed, AttrOf, BodyOf, ByBody, ByControl, ByNode, ByParent, BySeat, Child, Control, Could, CouldServe, EmptyOf, Exec, GidOfRight, GidOfTask, HasGid, HasUid, Header, Holds, IdSets, Io, IoRight, IsOpen, Knows, Name, OfControl, OfNode, OfSeat, OpenOf, OptionsOf, Owns, Part, Pending, Read, Right, SameView, Seen, Sees, SeesBody, SeesEmpty, Sends, ServerInfo, ServerRoot, Start, Taken, Target, TaskOf, SeesText, TextOf, InRoot, ToControl, with_text, ToPut, ToRead, ToSearch, UidOfRight, UidOfTask, UsersOf, Want, Way, World, Write, active_at, body_at, counts_at, counts_by, entry_of, header_at, home_at, info_in, open_at, part, server_at, task_at, tells, EndsOf, SeesInside, TotalOf}
 use Rattle.hurd_machine.specs.Sight.{Root, Held, Controlled, Parent}
 use Rattle.hurd_machine.proofs.Faces.{face_in, face_reads, of_face, none_faced, reads_same, whole}
 
@@ -162,6 +162,10 @@ module _ (S : ℕ → Bool) (v w : World) (tasks : SameTasks S v w) (equal : (p 
       let known = knows_of S v q s.info s.why in
       let m = server_moved known (Knows-moved q known) s.is_server in
       record { info = with_text m.0 s.info; is_server = m.1; other = s.other; why = Sends-moved q s.info m.0 s.why }
+  Sees-moved (TotalOf q) s =
+      let known = knows_of S v q s.info s.why in
+      let m = server_moved known (Knows-moved q known) s.is_server in
+      record { info = with_text m.0 s.info; is_server = m.1; tree = s.tree; why = Sends-moved q s.info m.0 s.why }
   Sees-moved (TaskOf t) s = s
 
 module _ {S : ℕ → Bool} {v w : World} (a : Agree S v w) where

@@ -11,7 +11,7 @@ use Rattle.hurd_creds.specs.Access.{IdSets, holds_uid, holds_gid, may}
 use Rattle.hurd_creds.specs.Bits.{asks, READ, WRITE}
 use Rattle.hurd_trans_iface.specs.Nodes.{Header, Body, attrs_with, is_empty_dir}
 use Rattle.hurd_trans_iface.specs.Answers.{entry_of}
-use Rattle.hurd_trans_iface.specs.Meaning.{ServerKind, root_of}
+use Rattle.hurd_trans_iface.specs.Meaning.{ServerKind, keeps_tree, root_of}
 use Rattle.hurd_trans_iface.specs.Texts.{reads_text, told_text}
 use Rattle.hurd_nodes.specs.declared.seat.Site.{Site}
 use Rattle.hurd_creds.specs.NameMaps.{NameMap}
@@ -24,7 +24,7 @@ use Rattle.hurd_ports.specs.declared.table.IoRight.{IoRight}
 use Rattle.hurd_ports.specs.declared.table.Right.{Right}
 use Rattle.hurd_ports.specs.declared.table.Right.TheVariants.{Io, Control, Start}
 use Rattle.hurd_ports.specs.Tables.{Task, rights_of, count_rights, names_open}
-use Rattle.hurd_machine.specs.World.{World, IsAmong, boot_root, task_at, open_at, header_at, body_at, site_at, home_at, active_at, counts_at, ends_at, server_at}
+use Rattle.hurd_machine.specs.World.{World, IsAmong, boot_root, task_at, open_at, header_at, body_at, site_at, home_at, active_at, counts_at, ends_at, server_at, total_at}
 
 -- a node's attributes as far as its header says them
 abbrev pub bare : Header → Attrs
@@ -113,6 +113,13 @@ pub data Knows (S : ℕ → Bool) (w : World) (s : Name) : Type 0 where
   OfSeat : (n : Name) → Seen S w n → active_at w n ≡ Some s → Knows S w s
   OfControl : Holds S w (Control s) → Knows S w s
 
+-- why S sees the total of a server: the server keeps a tree, and S may send it away
+pub record SeesTotal (S : ℕ → Bool) (w : World) (s : Name) : Type 0 where
+  pub info : ServerInfo
+  pub is_server : server_at w s ≡ Some info
+  pub tree : keeps_tree info.kind ≡ true
+  pub why : Sends S w s info
+
 -- the parts of a world
 pub data Part : Type 0 where
   AttrOf : Name → Part  -- a node's server, the one active on it, and its attributes, but whether it is empty
@@ -123,6 +130,7 @@ pub data Part : Type 0 where
   OptionsOf : Name → Part  -- a server, but for its text, unless that is a link's
   TextOf : Name → Part  -- the text of a server
   UsersOf : Name → Part  -- how many rights there are on a server's nodes
+  TotalOf : Name → Part  -- what the files of a server that entries name have in all
   TaskOf : ℕ → Part  -- a task
 
 -- whether an open with these modes tells what is in a node, whose server is told who reads and who writes or isn't
@@ -162,6 +170,7 @@ Sees S w (OpenOf o) = (r : IoRight) × Holds S w (Io r) × (r.open_name ≡ o)
 Sees S w (OptionsOf s) = Knows S w s
 Sees S w (TextOf s) = (i : ServerInfo) × (server_at w s ≡ Some i) × SeesText S w s i
 Sees S w (UsersOf s) = MaySend S w s
+Sees S w (TotalOf s) = SeesTotal S w s
 Sees S w (TaskOf t) = S t ≡ true
 
 -- whether a right is to use a node that a server has, by these sites
@@ -200,6 +209,7 @@ pub data Value : Type 0 where
   AnOptions : Option ServerInfo → Value
   AText : Option (List ℕ) → Value
   AUsers : ℕ → Value
+  ATotal : Option ℕ → Value
   ATask : Option Task → Value
 
 -- the value of each part in a world
@@ -212,6 +222,7 @@ part w (OpenOf o) = AnOpen (open_at w o) (holders w o)
 part w (OptionsOf s) = AnOptions (option_map faced (server_at w s))
 part w (TextOf s) = AText (option_map (λ (i : ServerInfo). i.text) (server_at w s))
 part w (UsersOf s) = AUsers (users w s)
+part w (TotalOf s) = ATotal (total_at w s)
 part w (TaskOf t) = ATask (task_at w t)
 
 -- what the part is of is gone: it shows nothing
@@ -222,6 +233,7 @@ IsGone w (BodyOf n) = part w (BodyOf n) ≡ ABody None
 IsGone w (EndsOf n) = part w (EndsOf n) ≡ AnEnds None
 IsGone w (OptionsOf s) = part w (OptionsOf s) ≡ AnOptions None
 IsGone w (TextOf s) = part w (TextOf s) ≡ AText None
+IsGone w (TotalOf s) = part w (TotalOf s) ≡ ATotal None
 IsGone w p = ⊥
 
 -- two worlds have the same view for S: S sees the same parts in both, and they are equal; and there are as many tasks

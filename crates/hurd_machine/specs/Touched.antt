@@ -1,12 +1,15 @@
 -- How the parts that a call touches are said.
-use Rattle.std.specs.Prelude.{◌≡◌, ◌⊎◌, true, Option, Some, None, Result, Ok, Err}
+use Rattle.std.specs.Prelude.{◌≡◌, ◌≢◌, ◌⊎◌, ℕ, true, false, Option, Some, None, Result, Ok, Err}
 use Rattle.hurd_creds.specs.declared.name.Name.{Name}
 use Rattle.hurd_creds.specs.declared.errno.Errno.{Errno}
-use Rattle.hurd_trans_iface.specs.Behaviour.{Did}
+use Rattle.hurd_trans_iface.specs.Nodes.{Header, is_dir}
+use Rattle.hurd_trans_iface.specs.Behaviour.{Did, size_left}
+use Rattle.hurd_trans_iface.specs.Totals.{counts_for}
+use Rattle.hurd_nodes.specs.Shown.{tree_by}
 use Rattle.hurd_ports.specs.declared.table.Right.{Right}
 use Rattle.hurd_ports.specs.declared.table.Right.TheVariants.{Io, Control, Start}
-use Rattle.hurd_machine.specs.World.{World, home_at, active_at, counts_at}
-use Rattle.hurd_machine.specs.Sight.{Part, AttrOf, EmptyOf, BodyOf, EndsOf, OpenOf, OptionsOf, TextOf, UsersOf}
+use Rattle.hurd_machine.specs.World.{World, header_at, info_at, home_at, active_at, counts_at}
+use Rattle.hurd_machine.specs.Sight.{Part, AttrOf, EmptyOf, BodyOf, EndsOf, OpenOf, OptionsOf, TextOf, UsersOf, TotalOf}
 
 -- the parts that follow from what a call asks; a refused call touches none
 unfoldable pub asked_parts : {A : Type 0} → Result A Errno → (A → Part → Type 0) → Part → Type 0
@@ -49,12 +52,25 @@ Goes w s (EndsOf n) = home_at w n ≡ Some s
 Goes w s (OptionsOf q) = q ≡ s
 Goes w s (TextOf q) = q ≡ s
 Goes w s (UsersOf q) = q ≡ s
+Goes w s (TotalOf q) = q ≡ s
 Goes w s p = ⊥
 
 abbrev pub Changes : {X : Type 0} → Option X → Type 0
 Changes None = ⊥
 Changes (Some f) = Unit {0}
 
--- what a server does to a node: its body where bytes change, its attributes where the size does
-abbrev pub OnDid : {T : Type 0} → Name → Did T → Part → Type 0
-OnDid n d p = (Changes d.bytes × (p ≡ BodyOf n)) ⊎ (Changes d.size × (p ≡ AttrOf n))
+-- the total of a node's server, which keeps a tree
+abbrev pub OnTotal : World → Name → Part → Type 0
+OnTotal w n p = (s : Name) × (home_at w n ≡ Some s) × (tree_by (info_at w n) ≡ true) × (p ≡ TotalOf s)
+
+-- a node comes to count for more or for less
+abbrev pub Resizes : World → Name → (Header → Header) → Type 0
+Resizes w n f = (h : Header) × (header_at w n ≡ Some h) × (counts_for (f h) ≢ counts_for h)
+
+-- what a server does to a node: its body where bytes change, its attributes where the size does, the total where an entry names the file too
+abbrev pub OnDid : {T : Type 0} → World → Name → Did T → Part → Type 0
+OnDid w n d p = (Changes d.bytes × (p ≡ BodyOf n)) ⊎ ((Changes d.size × (p ≡ AttrOf n)) ⊎ (Resizes w n (size_left d.size) × OnTotal w n p))
+
+-- the total, where a file has so many links: none, and it gets one, or one, and it loses that
+abbrev pub OnLinks : World → Name → ℕ → Part → Type 0
+OnLinks w n k p = ((h : Header) × (header_at w n ≡ Some h) × (is_dir h.kind ≡ false) × (h.links ≡ k)) × OnTotal w n p
