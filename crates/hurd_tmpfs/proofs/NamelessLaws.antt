@@ -21,9 +21,8 @@ use Rattle.hurd_tmpfs.specs.declared.inode.Inode.{Inode}
 use Rattle.hurd_tmpfs.specs.declared.inodes.Inodes.{Inodes}
 use Rattle.hurd_tmpfs.specs.Nameless.{KeepsOthers, Relisted}
 use Rattle.hurd_tmpfs.specs.Room.{room}
-use Rattle.hurd_tmpfs.specs.Stored.{IsStored}
 use Rattle.hurd_tmpfs.specs.Tree.{node_of, nodes_in, nodes_of}
-use Rattle.hurd_tmpfs.proofs.StoredLaws.{stored-in, room-in, changed-in, found-in}
+use Rattle.hurd_tmpfs.proofs.StoredLaws.{room-in, changed-in, found-in}
 
 -- lists
 
@@ -157,15 +156,15 @@ list-after n m k l (Some os) (Some ns) same keeps list looked = λ q nameless. e
   | inr apart ↦ looked.0 q apart ∙ list q (before (is_entered_at (fin.get m q)) (is_entered_at (fin.get k q)) (keeps q apart) (rw same at nameless))
 ]
 
--- a tree of which a node changes in its slot, and stays entered
-module _ (t : Inodes) (n : Name) (k : ℕ) (x : Inode) (at : Some k ≡ get same_name t.keys n) (is : slab.get t.slots k ≡ Some x) (root : Option Name) (o : Option (Vec Name)) where
-  pub tree-kept : (root ≡ None → 0 < room t) → IsListOf (nodes_of t) o → (y : Inode) → (is_entered (node_of x).header ≡ true → is_entered (node_of y).header ≡ true)
-      → (IsStored (with_value t.slots k y) t.keys × Unit {0})
-      × ((root ≡ None → 0 < min ((with_value t.slots k y).capacity - slab_len (with_value t.slots k y)) (spare t.keys)) × (IsListOf (nodes_in (with_value t.slots k y) t.keys) o × Unit {0}))
-  tree-kept free list y keeps = (
-    ((stored-in t n k x at is y).stored, tt),
-    (λ none. rw (room-in t n k x at is y) (free none), (list-kept (nodes_of t) _ _ o (changed-in t n k x at is y) (insert-keeps n (node_of x) (node_of y) (nodes_of t) (found-in t n k x at is) keeps) list, tt)),
-  )
+-- a tree of which a node changes in its slot
+module _ (t : Inodes) (n : Name) (k : ℕ) (x : Inode) (at : Some k ≡ get same_name t.keys n) (is : slab.get t.slots k ≡ Some x) where
+  -- there is as much room
+  pub room-kept : (root : Option Name) → (root ≡ None → 0 < room t) → (y : Inode) → root ≡ None → 0 < min ((with_value t.slots k y).capacity - slab_len (with_value t.slots k y)) (spare t.keys)
+  room-kept root free y none = rw (room-in t n k x at is y) (free none)
+
+  -- and the list stays right where the node stays entered
+  pub list-changed : (o : Option (Vec Name)) → IsListOf (nodes_of t) o → (y : Inode) → (is_entered (node_of x).header ≡ true → is_entered (node_of y).header ≡ true) → IsListOf (nodes_in (with_value t.slots k y) t.keys) o
+  list-changed o list y keeps = list-kept (nodes_of t) _ _ o (changed-in t n k x at is y) (insert-keeps n (node_of x) (node_of y) (nodes_of t) (found-in t n k x at is) keeps) list
 
 -- of no nodes
 pub list-nothing : (m : NodeMap) (ns : List Name) → m ≡ fin.empty → AllListed m ns
