@@ -63,8 +63,8 @@ find-none n = sym (fin.get-empty {X = Node} name_cmp n)
 
 -- where no tree is kept there is no limit
 
-pub spacious : (m : Meaning) → keeps_tree m.kind ≡ false → space_of m ≡ None
-spacious m no_tree = ap (λ (most : Option ℕ). space_with most (total_in m.nodes)) ((good m.kind).unlimited no_tree m.text)
+pub space-none : (m : Meaning) → keeps_tree m.kind ≡ false → space_of m ≡ None
+space-none m no_tree = ap (λ (most : Option ℕ). space_with most (total_in m.nodes)) ((good m.kind).unlimited no_tree m.text)
 
 -- where no tree is kept no entry goes
 
@@ -243,9 +243,9 @@ module _ (kind : ServerKind) (text : List ℕ) (held : List ℕ) (p : Presence) 
     abbrev effect : Effect T
     effect = q (behaviour_of kind) text (node_of kind text held r)
 
-    -- no limit refuses it
+    -- there is no limit by which it is refused
     effect-fits : effect ≡ fitting (space_of meaning) (node_of kind text held r).header effect
-    effect-fits = sym (ap (λ (space : Option ℕ). fitting space (node_of kind text held r).header effect) (spacious meaning no_tree))
+    effect-fits = sym (ap (λ (space : Option ℕ). fitting space (node_of kind text held r).header effect) (space-none meaning no_tree))
 
     pub told-kept : told_of effect ≡ (step_of q n meaning).0
     told-kept = told-here meaning n (node_of kind text held r) at-there q (told_of effect) (ap told_of effect-fits)
