@@ -1,5 +1,5 @@
 //! The limit of a tree.
-ghost use Rattle.std.specs.Prelude.{◌≡◌, ◌≤◌, [], length, option_copied, IfOk, IfErr, IfSome, Ok, Err};
+ghost use Rattle.std.specs.Prelude.{◌≡◌, ◌≤◌, length, option_copied, IfOk, IfErr, IfSome, Ok, Err};
 ghost use Rattle.std.specs.List.{list_all};
 ghost use Rattle.hurd_creds.specs.Memory.{Meets};
 ghost use Rattle.hurd_creds.specs.Numbers.{long_number_of};
