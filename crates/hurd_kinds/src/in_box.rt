@@ -147,6 +147,14 @@ impl Server for ServerBox {
         in_box!(self, server => server.counts())
     }
 
+    fn space(&self) -> Option<u64> {
+        in_box!(self, server => server.space())
+    }
+
+    fn total(&self) -> u128 {
+        in_box!(self, server => server.total())
+    }
+
     fn goaway(&mut self) {
         in_box!(self, server => server.goaway())
     }

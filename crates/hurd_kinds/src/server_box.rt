@@ -2,8 +2,9 @@
 ghost use Rattle.std.specs.Prelude.{◌≡◌, ◌≤◌, length, IfOk};
 ghost use Rattle.std.specs.Option.{option_map};
 ghost use Rattle.hurd_trans_iface.specs.HelloKind.{most_text};
-ghost use Rattle.hurd_trans_iface.specs.Meaning.{begin, new_server};
+ghost use Rattle.hurd_trans_iface.specs.Meaning.{Tmpfs as TmpfsKind, begin, new_server};
 ghost use Rattle.hurd_trans_iface.specs.Sayings.{IsFit, server_said};
+ghost use Rattle.hurd_trans_iface.specs.TmpfsKind.{most_digits};
 ghost use Rattle.hurd_small.specs.FixedKinds.{kind_of};
 ghost use Rattle.hurd_tmpfs.specs.Tree.{new_tmpfs, tree};
 ghost use Rattle.hurd_kinds.specs.Boxes.{box_meaning};
@@ -34,6 +35,15 @@ fn fixed(alloc: Global, kind: FixedKind, text: &[u8]) -> Result<ServerBox, Alloc
     Ok(ServerBox::Fixed(Box::new(alloc, server)?))
 }
 
+/// An empty tree in memory with these digits as its limit, or none, in a box.
+fn tree_with_limit(alloc: Global, digits: &[u8]) -> Result<Box<Tmpfs>, AllocError>
+    requires { length digits.now ≤ most_digits }
+    ensures { IfOk result (λ root. tree root.value ≡ new_server TmpfsKind digits.now) }
+{
+    let tree = Tmpfs::limited(alloc, digits)?;
+    Ok(Box::new(alloc, tree)?)
+}
+
 /// The server of this kind, to which this is said, in a box.
 #[tactic(auto, unfolding(crate::specs::Boxes::box_meaning))]
 fn boxed(alloc: Global, begun: Begun<'_>) -> Result<ServerBox, AllocError>
@@ -41,7 +51,7 @@ fn boxed(alloc: Global, begun: Begun<'_>) -> Result<ServerBox, AllocError>
     ensures { IfOk result (λ server. box_meaning server ≡ server_said begun.entry) }
 {
     Ok(match begun {
-        Begun::Tmpfs => ServerBox::Tmpfs(empty_tree(alloc)?),
+        Begun::Tmpfs(digits) => ServerBox::Tmpfs(tree_with_limit(alloc, digits)?),
         Begun::Hello(text) => fixed(alloc, FixedKind::Hello, text)?,
         Begun::Null => fixed(alloc, FixedKind::Null, &[])?,
         Begun::Zero => fixed(alloc, FixedKind::Zero, &[])?,

@@ -1,20 +1,23 @@
 -- The space that a box says it has is what is shown of it, since it hides nothing: what is shown of a server's nodes is all that its box has.
 use Rattle.std.proofs.Common.{◌≡◌, ℕ, Bool, true, false, cond, refl, sym, ap, ◌∙◌, true≢false}
-use Rattle.std.specs.Prelude.{Option, Some, None, is_some}
+use Rattle.std.specs.Prelude.{List, Option, Some, None, is_some, slice_get}
+use Rattle.std.specs.Map.{values_of}
 use Rattle.std.specs.Option.{option_map}
 use Rattle.std.specs.FinMap as fin
 use Rattle.hurd_creds.specs.declared.name.Name.{Name}
-use Rattle.hurd_creds.specs.NameMaps.{NameMap}
+use Rattle.hurd_creds.specs.NameMaps.{NameMap, place_by}
 use Rattle.hurd_creds.proofs.NameLaws.{equal_if_same, same_map_by, same_name-itself}
 use Rattle.hurd_creds.proofs.Retained.{get-retained}
 use Rattle.hurd_trans_iface.specs.Nodes.{Node}
-use Rattle.hurd_trans_iface.specs.Meaning.{Meaning, limit_of, space_of}
+use Rattle.hurd_trans_iface.specs.Meaning.{Meaning, keeps_tree, space_of}
 use Rattle.hurd_trans_iface.specs.Totals.{space_with, total_in}
 use Rattle.hurd_nodes.specs.declared.seat.Site.{Site}
-use Rattle.hurd_nodes.specs.Held.{Held, Seated, box_by, home_in, is_home, mean}
-use Rattle.hurd_nodes.specs.Shown.{HideNothing, ServerInfo, flat, info_of, limit_by, node_in, nodes_in, nodes_of, shown, space_at, space_for, tree_by}
+use Rattle.hurd_nodes.specs.declared.seat.Seat.{Seat}
+use Rattle.hurd_nodes.specs.Held.{Seated, box_by, home_in, is_home, mean, mean_seat, seat_key, seat_value, seats_of, sites_of}
+use Rattle.hurd_nodes.specs.Shown.{ServerInfo, flat, node_in, nodes_in, nodes_of, servers_of, space_at, space_for, tree_by}
 use Rattle.hurd_nodes.specs.Totals.{total_if, total_of}
-use Rattle.hurd_nodes.proofs.HideLaws.{TellsAll, has}
+use Rattle.hurd_nodes.proofs.HideLaws.{TellsAll}
+use Rattle.hurd_nodes.proofs.SeatLaws.{seat-is}
 use Rattle.hurd_nodes.proofs.ShownLaws.{get-nodes, get-servers}
 
 -- a node's home is the server whose home it is
@@ -60,3 +63,22 @@ module _ (sites : NameMap Site) (seats : NameMap (Seated Meaning)) (tells : Tell
   -- the space of a node's server is that of its box
   pub space-told : (m : Meaning) (n : Name) → Some m ≡ box_by seats (home_in sites n) → space_at (flat sites seats) n ≡ space_of m
   space-told m n box = space-by m (home_in sites n) box
+
+  -- what the files of a server that is not there have in all is nothing that is told
+  pub total-none : (s : Name) → fin.get (servers_of seats) s ≡ None → total_of (flat sites seats) s ≡ None
+  total-none s gone = ap (λ (o : Option ServerInfo). total_if (tree_by o) (total_in (nodes_in (nodes_of sites seats) sites s))) gone
+
+  -- and of one that is there, if it keeps a tree, it is what its box says
+  pub total-told : (s : Name) (e : Seated Meaning) → fin.get seats s ≡ Some e → total_of (flat sites seats) s ≡ total_if (keeps_tree e.server.kind) (total_in e.server.nodes)
+  total-told s e is = rw (get-servers seats s, is, own-shown s e is) refl
+
+-- there is space, more or less, exactly where there is a limit
+pub space_limited : (limit : Option ℕ) (k : ℕ) → is_some (space_with limit k) ≡ is_some limit
+space_limited None k = refl
+space_limited (Some most) k = refl
+
+-- a server that is found by its place
+pub total-found : {S : Type 0} (f : S → Meaning) (rs : List (Name × Site)) (ss : List (Name × Seat S)) → TellsAll (sites_of rs) (mean f (seats_of ss)) → (s : Name) (i : ℕ) (x : Seat S)
+    → Some i ≡ place_by seat_key s ss → slice_get (values_of ss) i ≡ Some x
+    → total_of (flat (sites_of rs) (mean f (seats_of ss))) s ≡ total_if (keeps_tree (f x.server).kind) (total_in (f x.server).nodes)
+total-found f rs ss tells s i x at read = total-told (sites_of rs) (mean f (seats_of ss)) tells s (mean_seat f (seat_value x)) (seat-is f ss s i x at read)

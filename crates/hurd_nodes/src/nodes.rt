@@ -14,7 +14,7 @@ ghost use Rattle.hurd_nodes.specs.Settle.{AreServed};
 ghost use Rattle.hurd_nodes.specs.Held.{active_in, box_by, home_in, mean};
 
 use crate::aims::Aims;
-use crate::asking::{has_tree, told_text, total_in};
+use crate::asking::{has_limit, has_tree, told_text, total_in};
 use crate::forgetting::are_kin;
 use crate::search::{home_of, place_of_seat, place_of_server, put_seat, put_site};
 use crate::seat::{Seat, Seats, Sites};
@@ -184,7 +184,7 @@ impl<S: Server> Nodes<S> {
         ensures { result ≡ is_some (limit_by (fin.get (shown S.meaning self.now).servers server)) }
     {
         match place_of_seat(&self.seats, server) {
-            Some(i) => self.seats[i].server.space().is_some(),
+            Some(i) => has_limit(&self.seats[i].server),
             None => false,
         }
     }

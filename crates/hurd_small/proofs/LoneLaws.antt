@@ -15,9 +15,10 @@ use Rattle.hurd_creds.proofs.StepLaws.{steps-inside, steps-refused}
 use Rattle.hurd_trans_iface.specs.declared.header_edit.HeaderEdit.{HeaderEdit}
 use Rattle.hurd_trans_iface.specs.Nodes.{AllListed, Body, Node, NodeMap, body_of, is_dir, is_entered_at, passive_of, with_header, with_size}
 use Rattle.hurd_trans_iface.specs.Answers.{entry_of, unlink_of}
-use Rattle.hurd_trans_iface.specs.Meaning.{Meaning, ServerKind, behaviour_of, root_of, keeps_tree, empty_body, new_root, begin_root_after, step_of, options_taken, set_options_step, size_of, unlink_step, forget_after, edit_header_step}
-use Rattle.hurd_trans_iface.specs.Behaviour.{Effect, Question, told_of, served}
+use Rattle.hurd_trans_iface.specs.Meaning.{Meaning, ServerKind, behaviour_of, root_of, keeps_tree, empty_body, new_root, begin_root_after, step_of, options_taken, resized, set_options_step, size_of, space_of, unlink_step, forget_after, edit_header_step}
+use Rattle.hurd_trans_iface.specs.Behaviour.{Effect, Question, fitting, told_of, served}
 use Rattle.hurd_trans_iface.specs.Good.{KeepsRoot}
+use Rattle.hurd_trans_iface.specs.Totals.{space_with, total_in}
 use Rattle.hurd_trans_iface.proofs.Goods.{good}
 use Rattle.hurd_trans_iface.proofs.NodeSteps.{step-node, told-here}
 use Rattle.hurd_small.specs.declared.presence.LoneNode.{LoneNode}
@@ -59,6 +60,11 @@ no_nodes = fin.empty
 
 pub find-none : (n : Name) → None ≡ fin.get no_nodes n
 find-none n = sym (fin.get-empty {X = Node} name_cmp n)
+
+-- where no tree is kept there is no limit
+
+pub space-none : (m : Meaning) → keeps_tree m.kind ≡ false → space_of m ≡ None
+space-none m no_tree = ap (λ (most : Option ℕ). space_with most (total_in m.nodes)) ((good m.kind).unlimited no_tree m.text)
 
 -- where no tree is kept no entry goes
 
@@ -160,31 +166,34 @@ module _ (kind : ServerKind) (text : List ℕ) (held : List ℕ) where
 
 -- options that are taken
 
-module _ (kind : ServerKind) (old : List ℕ) (held : List ℕ) (p : Presence) where
+module _ (kind : ServerKind) (old : List ℕ) (held : List ℕ) (p : Presence) (no_tree : keeps_tree kind ≡ false) where
   abbrev meant : List ℕ → Meaning
   meant text = lone_meaning kind text held p
 
   module _ (new : List ℕ) (kept : KeepsRoot (behaviour_of kind) new) where
-    abbrev resized : Node → Node
-    resized x = with_header (with_size (size_of kind new)) x
+    abbrev retexted : Node → Node
+    retexted x = with_header (with_size (size_of kind new)) x
 
-    node-retexted : (n : LoneNode) → resized (node_of kind old held n) ≡ node_of kind new held n
-    node-retexted n = rw (kept.rooted old, kept.sized (body_with kind new held)) refl
+    node-retexted : (n : LoneNode) → retexted (node_of kind old held n) ≡ node_of kind new held n
+    node-retexted n = rw (kept.rooted old, kept.sized no_tree (body_with kind new held)) refl
 
-    nodes-retexted : (q : Presence) → map_values resized (nodes_of kind old held q) ≡ nodes_of kind new held q
-    nodes-retexted Nameless = map_values-empty resized
-    nodes-retexted (Forgotten name) = map_values-empty resized
-    nodes-retexted (There n) =
-        map_values-insert resized no_nodes n.name (node_of kind old held n)
-        ∙ ap (λ (m : NodeMap). fin.insert m n.name (resized (node_of kind old held n))) (map_values-empty resized)
+    map-retexted : (q : Presence) → map_values retexted (nodes_of kind old held q) ≡ nodes_of kind new held q
+    map-retexted Nameless = map_values-empty retexted
+    map-retexted (Forgotten name) = map_values-empty retexted
+    map-retexted (There n) =
+        map_values-insert retexted no_nodes n.name (node_of kind old held n)
+        ∙ ap (λ (m : NodeMap). fin.insert m n.name (retexted (node_of kind old held n))) (map_values-empty retexted)
         ∙ ap (λ (x : Node). fin.insert no_nodes n.name x) (node-retexted n)
+
+    nodes-retexted : resized (keeps_tree kind) (size_of kind new) (nodes_of kind old held p) ≡ nodes_of kind new held p
+    nodes-retexted = ap (λ (b : Bool). resized b (size_of kind new) (nodes_of kind old held p)) no_tree ∙ map-retexted p
 
   taken : (r : Result (Option (List ℕ)) Errno) → ((new : List ℕ) → r ≡ Ok (Some new) → KeepsRoot (behaviour_of kind) new)
       → options_taken r (meant old) ≡ ((text_taken r old).0, meant (text_taken r old).1)
   taken (Ok None) keeps = refl
   taken (Ok (Some new)) keeps =
       ap (λ (m : NodeMap). let z : Result (Unit {0}) Errno × Meaning = (Ok tt, record { kind = kind; text = new; root = (meant old).root; nodes = m }) in z)
-      (nodes-retexted new (keeps new refl) p)
+      (nodes-retexted new (keeps new refl))
   taken (Err e) keeps = refl
 
   pub options-taken : (ws : List (List ℕ)) (got : Result (Unit {0}) Errno) (new : List ℕ)
@@ -220,7 +229,7 @@ steps-told (Err f) x y got is = rw (ap (λ s. s.0) is, ap (λ s. s.1) is) (steps
 
 -- what is done to what is kept of the node
 
-module _ (kind : ServerKind) (text : List ℕ) (held : List ℕ) (p : Presence) (r : LoneNode) (n : Name) (is : p ≡ There r) (name : r.name ≡ n) where
+module _ (kind : ServerKind) (text : List ℕ) (held : List ℕ) (p : Presence) (r : LoneNode) (n : Name) (is : p ≡ There r) (name : r.name ≡ n) (no_tree : keeps_tree kind ≡ false) where
   pub at-there : fin.get (nodes_of kind text held p) n ≡ Some (node_of kind text held r)
   at-there = rw (is, ← name) (get-one r.name (node_of kind text held r))
 
@@ -234,15 +243,20 @@ module _ (kind : ServerKind) (text : List ℕ) (held : List ℕ) (p : Presence) 
     abbrev effect : Effect T
     effect = q (behaviour_of kind) text (node_of kind text held r)
 
+    -- there is no limit by which it is refused
+    effect-fits : effect ≡ fitting (space_of meaning) (node_of kind text held r).header effect
+    effect-fits = sym (ap (λ (space : Option ℕ). fitting space (node_of kind text held r).header effect) (space-none meaning no_tree))
+
     pub told-kept : told_of effect ≡ (step_of q n meaning).0
-    told-kept = told-here meaning n (node_of kind text held r) at-there q (told_of effect) refl
+    told-kept = told-here meaning n (node_of kind text held r) at-there q (told_of effect) (ap told_of effect-fits)
 
     pub step-kept : (same_text : List ℕ) (new : List ℕ) → same_text ≡ text → Steps (node_of kind text held r) (served effect (node_of kind text held r)) got (node_of kind same_text new r)
         → Steps meaning (step_of q n meaning) got (lone_meaning kind same_text new p)
     step-kept same_text new same =
         subst (λ (t : List ℕ). Steps (node_of kind text held r) (served effect (node_of kind text held r)) got (node_of kind t new r) → Steps meaning (step_of q n meaning) got (lone_meaning kind t new p)) (sym same)
-        (λ steps. step-node meaning n (node_of kind text held r) at-there q got (node_of kind text new r) (nodes_of kind text new p) steps (nodes-kept new))
+        (λ steps. step-node meaning n (node_of kind text held r) at-there q got (node_of kind text new r) (nodes_of kind text new p)
+        (subst (λ (e : Effect T). Steps (node_of kind text held r) (served e (node_of kind text held r)) got (node_of kind text new r)) effect-fits steps) (nodes-kept new))
 
   -- nothing that the node's header says is edited
-  pub header-barred : keeps_tree kind ≡ false → (e : HeaderEdit) → (Err EOPNOTSUPP, meaning) ≡ edit_header_step n e meaning
-  header-barred no_tree e = rw (at-there, no_tree) refl
+  pub header-barred : (e : HeaderEdit) → (Err EOPNOTSUPP, meaning) ≡ edit_header_step n e meaning
+  header-barred e = rw (at-there, no_tree) refl

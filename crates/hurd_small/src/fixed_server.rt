@@ -31,7 +31,7 @@ fn fixed_in(begun: Begun<'_>) -> Option<(FixedKind, &[u8])>
         Begun::Symlink(path) => Some((FixedKind::Symlink, path)),
         Begun::Firmlink(path) => Some((FixedKind::Firmlink, path)),
         Begun::Magic => Some((FixedKind::Magic, b"fd")),
-        Begun::Tmpfs | Begun::Union(_) | Begun::Drip(_) | Begun::Fifo => None,
+        Begun::Tmpfs(_) | Begun::Union(_) | Begun::Drip(_) | Begun::Fifo => None,
     }
 }
 

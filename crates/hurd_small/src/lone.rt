@@ -210,5 +210,13 @@ impl<K: Keeper> Server for Lone<K> {
         self.keeper.counts()
     }
 
+    fn space(&self) -> Option<u64> {
+        None
+    }
+
+    fn total(&self) -> u128 {
+        0
+    }
+
     fn goaway(&mut self) {}
 }

@@ -15,7 +15,7 @@ returns-in-Some-clause-steps g c =
     let is = c.in-Some.ensures.there.0 in
     let name = c.in-Some.ensures.there.1 in
     let k = c.read.new.self in
-    rw c.read.ensures.kind (step-kept kind text held p r n is name (reading c.args.at c.args.amount c.args.writers) c.read.result (g.K.Keeper.text k) (g.K.Keeper.held k) c.read.ensures.text (c.read.ensures.steps r))
+    rw c.read.ensures.kind (step-kept kind text held p r n is name (g.met.K.Keeper.no_tree s.keeper) (reading c.args.at c.args.amount c.args.writers) c.read.result (g.K.Keeper.text k) (g.K.Keeper.held k) c.read.ensures.text (c.read.ensures.steps r))
 
 pub returns-in-Some-clause-nothing : goal.returns-in-Some-clause-nothing
 returns-in-Some-clause-nothing g c =
@@ -28,4 +28,4 @@ returns-in-Some-clause-nothing g c =
     let n = c.args.node in
     let is = c.in-Some.ensures.there.0 in
     let name = c.in-Some.ensures.there.1 in
-    λ none. c.read.ensures.nothing r (told-kept kind text held p r n is name (reading c.args.at c.args.amount c.args.writers) c.read.result ∙ none)
+    λ none. c.read.ensures.nothing r (told-kept kind text held p r n is name (g.met.K.Keeper.no_tree s.keeper) (reading c.args.at c.args.amount c.args.writers) c.read.result ∙ none)

@@ -21,9 +21,9 @@ returns-in-Some g c =
     let q = resizing c.args.size in
     let x = node_of kind text held r in
     let y = node_of kind (g.K.Keeper.text k) (g.K.Keeper.held k) r in
-    let told = ap (λ s. s.0) (c.set_size.ensures.steps r) ∙ told-kept kind text held p r n is name q c.set_size.result in
+    let told = ap (λ s. s.0) (c.set_size.ensures.steps r) ∙ told-kept kind text held p r n is name (g.met.K.Keeper.no_tree s.keeper) q c.set_size.result in
     record {
-      steps = rw c.set_size.ensures.kind (step-kept kind text held p r n is name q c.set_size.result (g.K.Keeper.text k) (g.K.Keeper.held k) c.set_size.ensures.text (steps-told (q (behaviour_of kind) text x) x y c.set_size.result (c.set_size.ensures.steps r)));
+      steps = rw c.set_size.ensures.kind (step-kept kind text held p r n is name (g.met.K.Keeper.no_tree s.keeper) q c.set_size.result (g.K.Keeper.text k) (g.K.Keeper.held k) c.set_size.ensures.text (steps-told (q (behaviour_of kind) text x) x y c.set_size.result (c.set_size.ensures.steps r)));
       stream = λ is_stream. told;
       cut = λ reaches. told;
     }

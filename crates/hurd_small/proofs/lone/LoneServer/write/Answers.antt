@@ -21,9 +21,9 @@ returns-in-Some g c =
     let q = writing c.args.at c.args.bytes.now c.args.readers in
     let x = node_of kind text held r in
     let y = node_of kind (g.K.Keeper.text k) (g.K.Keeper.held k) r in
-    let told = ap (λ s. s.0) (c.write.ensures.steps r) ∙ told-kept kind text held p r n is name q c.write.result in
+    let told = ap (λ s. s.0) (c.write.ensures.steps r) ∙ told-kept kind text held p r n is name (g.met.K.Keeper.no_tree s.keeper) q c.write.result in
     record {
-      steps = rw c.write.ensures.kind (step-kept kind text held p r n is name q c.write.result (g.K.Keeper.text k) (g.K.Keeper.held k) c.write.ensures.text (steps-told (q (behaviour_of kind) text x) x y c.write.result (c.write.ensures.steps r)));
+      steps = rw c.write.ensures.kind (step-kept kind text held p r n is name (g.met.K.Keeper.no_tree s.keeper) q c.write.result (g.K.Keeper.text k) (g.K.Keeper.held k) c.write.ensures.text (steps-told (q (behaviour_of kind) text x) x y c.write.result (c.write.ensures.steps r)));
       stream = λ is_stream. told;
       within = λ reaches. told;
       nothing = λ empty. told;
