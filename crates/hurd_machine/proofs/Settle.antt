@@ -126,7 +126,7 @@ module _ (S : ℕ → Bool) (w : World) (c : Coherent w) (l : Linked (nodes_of w
       same (OptionsOf q) s = ap (λ o. AnOptions (face_in o)) (retained w.servers (server_stays w) q (known_lives q s))
       same (TextOf q) s = ap (λ o. AText (text_in o)) (retained w.servers (server_stays w) q (known_lives q (text_known S w q s.0 s.2)))
       same (UsersOf q) s = ap AUsers (users_still w c q)
-      same (TotalOf q) s = let lives = known_lives q (knows_of S w q s.info s.why) in ap ATotal (total_after w q (retained w.servers (server_stays w) q lives) lives)
+      same (TotalOf q) s = let lives = known_lives q s.knows in ap ATotal (total_after w q (retained w.servers (server_stays w) q lives) lives)
       same (TaskOf t) s = refl
 
 -- who sees a world sees the same once it is settled
