@@ -25,7 +25,7 @@ use Rattle.hurd_machine.proofs.Swept.{root_stays, boot_stays, entry_stays, paren
 use Rattle.hurd_machine.proofs.Coherence.{was, entry_lists, home_server}
 use Rattle.hurd_machine.proofs.Texts.{server_was, held_yet, stays_kept}
 use Rattle.hurd_machine.proofs.Rights.{port_keeps, port_has}
-use Rattle.hurd_machine.proofs.Views.{Agree, Agree-refl, Agree-trans, knows_of, text_known}
+use Rattle.hurd_machine.proofs.Views.{Agree, Agree-refl, Agree-trans, text_known}
 use Rattle.hurd_machine.proofs.Faces.{face_in, text_in}
 use Rattle.hurd_machine.proofs.ServerParts.{users_by}
 use Rattle.hurd_machine.proofs.Totals.{total_swept, unentered_none, own_total}
