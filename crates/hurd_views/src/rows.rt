@@ -77,7 +77,7 @@ impl Model for NodeNames {
 pub struct ServerRow {
     /// The name of its program.
     pub program: Bytes,
-    /// Its text, if it is a link; else none.
+    /// Its text, if it is a link or a tree; else none.
     pub text: Bytes,
     pub root: NodeName,
     pub ids: Ids,
@@ -108,6 +108,8 @@ pub struct Row {
     pub text: Option<Option<TextRow>>,
     /// How many rights there are on a server's nodes.
     pub users: Option<u128>,
+    /// What the files of a server that entries name have in all.
+    pub total: Option<u128>,
 }
 
 impl EntryRows {
@@ -309,6 +311,7 @@ impl Row {
             && self.server.same(&other.server)
             && self.text.same(&other.text)
             && self.users == other.users
+            && self.total == other.total
     }
 }
 
@@ -325,5 +328,6 @@ impl Row {
             && self.server.is_none()
             && self.text.is_none()
             && self.users.is_none()
+            && self.total.is_none()
     }
 }
