@@ -317,7 +317,7 @@ fn push_text(words: &mut Vec<u8>, text: &[u8]) -> Result<(), AllocError>
     push_word(words, text)
 }
 
-/// The program of a server, and of a link its text.
+/// The program of a server, and behind it a link's text, or a tree's, which is its limit.
 pub(crate) fn program_text(alloc: Global, server: &ServerRow) -> Result<Vec<u8>, AllocError>
     ensures { IfOk result (λ text. text.items ≡ program_text server.now) }
 {
