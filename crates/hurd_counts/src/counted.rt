@@ -208,6 +208,14 @@ impl<S: Server> Server for Counted<S> {
         self.server.counts()
     }
 
+    fn space(&self) -> Option<u64> {
+        self.server.space()
+    }
+
+    fn total(&self) -> u128 {
+        self.server.total()
+    }
+
     fn goaway(&mut self) {
         add_one(&self.sent_away);
         self.server.goaway()

@@ -13,6 +13,7 @@ use Rattle.hurd_machine.specs.Plan.{Follows}
 use Rattle.hurd_machine.proofs.Nodes.{header_in, body_in, node_of_header}
 use Rattle.hurd_machine.proofs.Coherence.{entry_lists}
 use Rattle.hurd_machine.proofs.Views.{Agree, header_same, body_same, home_same, active_same}
+use Rattle.hurd_machine.proofs.Lasts.{recounts_unlinked}
 use Rattle.hurd_machine.proofs.Removals.{MayRemove, unlinking_piece}
 use Rattle.hurd_machine.proofs.Asks.{IsPlain, on_ok, given_ok, first_ok, on_same, given_same, first_same, on_plain, given_plain, first_plain, ok_plain, answered_same, answered_plain, done_plain}
 use Rattle.hurd_machine.proofs.CallLaws.{CallLaws, answered_piece}
@@ -115,6 +116,9 @@ module _ {S : ℕ → Bool} {v : World} (t : ℕ) (ours : S t ≡ true) (p : ℕ
   body_seen : (x : Entered) → IsTaking v t p name x → Sees S v (BodyOf x.dir)
   body_seen x k = subst (λ d. Sees S v (BodyOf d)) k.on_dir (entry_seen t ours p k.at k.is_entry)
 
+  node_seen : (x : Entered) → IsTaking v t p name x → Seen S v x.node
+  node_seen x k = child_seen t ours p k.at k.is_entry.is_named k.is_entry.dir.opened name x.node k.entry
+
   -- whether a directory below one that S could write is empty
   empty_seen : Coherent v → (x : Entered) → IsTaking v t p name x → x.header.kind ≡ Dir → Sees S v (EmptyOf x.node)
   empty_seen c x k dir = child_empty t ours p k.at k.is_entry.is_named k.is_entry.dir.opened c name x.node x.header k.entry k.is_header dir
@@ -161,12 +165,12 @@ taking_plain w t p name =
 
 module _ (t p : ℕ) (name : List ℕ) (asks : World → Result Entered Errno) where
   removal_laws : ((w : World) (x : Entered) → asks w ≡ Ok x → MayTake w t p name x) → ((S : ℕ → Bool) (v w : World) → Coherent v → Agree S v w → S t ≡ true → asks w ≡ asks v) → ((w : World) → IsPlain (asks w))
-      → CallLaws t (λ w. answered (asks w) (removing name)) (λ w. asked_parts (asks w) OnEntry)
+      → CallLaws t (λ w. answered (asks w) (removing name)) (λ w. asked_parts (asks w) (OnEntry w))
   removal_laws takes same plain = record {
     piece = λ w s. answered_piece s (asks w) _ _ (λ x is.
         let k = takes w x is in
-        settled (gone.unlinking x.dir name x.node) (tt, (tt, tt)) (stands s) (unlinking_piece x.dir name x.node good (stands s) (may_remove w s.coherent t p name x k) (inl (inl refl)) (inl (inr (inl refl))) (inl (inr (inr refl)))
-        (λ S ours. body_seen t ours p name x k.is_taking)));
+        settled (gone.unlinking x.dir name x.node) (tt, (tt, tt)) (stands s) (unlinking_piece x.dir name x.node good (stands s) (may_remove w s.coherent t p name x k) (inl (inl refl)) (inl (inr (inl refl))) (inl (inr (inr (inl refl))))
+        (recounts_unlinked w x.node (λ q on. inl (inr (inr (inr on))))) (λ S ours. (body_seen t ours p name x k.is_taking, node_seen t ours p name x k.is_taking))));
     same = λ S v w c d a ours. answered_same _ _ _ _ (same S v w c a ours) (λ x is. refl);
     plain = λ w. answered_plain _ _ (plain w) (λ x is. done_plain Done refl);
   }

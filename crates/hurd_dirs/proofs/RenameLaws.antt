@@ -14,6 +14,8 @@ use Rattle.hurd_machine.proofs.Views.{Agree, header_same, home_same, active_same
 use Rattle.hurd_machine.proofs.Coherence.{entry_lists}
 use Rattle.hurd_machine.proofs.Frame.{Full}
 use Rattle.hurd_machine.proofs.Links.{leads_unless, listing_of}
+use Rattle.hurd_machine.specs.Touched.{OnLinks}
+use Rattle.hurd_machine.proofs.Lasts.{recounts_unlinked}
 use Rattle.hurd_machine.proofs.Linking.{kin_are}
 use Rattle.hurd_machine.proofs.Removals.{MayRemove, unlinking, distinct_at, left_linked, unlinking_piece}
 use Rattle.hurd_machine.proofs.Renames.{MayGo, may_go, going, taken_none, taken_other, going_piece}
@@ -333,26 +335,26 @@ module _ (t p q : ℕ) (name new : List ℕ) where
       first_plain _ _ (given_plain _ _ _ refl (λ here. on_plain _ _ _ refl (λ n entry. on_plain _ _ _ refl (λ k at. given_plain _ _ _ refl (λ kin. given_plain _ _ _ refl (λ take. given_plain _ _ _ refl (λ out. ok_plain _))))))) (λ l leaving.
       first_plain _ _ (old_plain w a.1 l _) (λ o old. ok_plain _))))))
 
-  abbrev touched : Renaming → Part → Type 0
-  touched r x = ((x ≡ BodyOf r.from) ⊎ (x ≡ EmptyOf r.from)) ⊎ (((x ≡ BodyOf r.to) ⊎ (x ≡ EmptyOf r.to)) ⊎ ((x ≡ AttrOf r.node) ⊎ ((m : Name) × (r.old ≡ Some m) × (x ≡ AttrOf m))))
+  abbrev touched : World → Renaming → Part → Type 0
+  touched w r x = ((x ≡ BodyOf r.from) ⊎ (x ≡ EmptyOf r.from)) ⊎ (((x ≡ BodyOf r.to) ⊎ (x ≡ EmptyOf r.to)) ⊎ ((x ≡ AttrOf r.node) ⊎ ((m : Name) × (r.old ≡ Some m) × ((x ≡ AttrOf m) ⊎ OnLinks w m 1 x))))
 
-  rename_whole : (w : World) → Sound w → (r : Renaming) → rename_asks w t p name q new ≡ Ok r → Whole t (Full w t (touched r)) w w (renames name new r r.old)
-  rename_whole w s = asked_all w t p q name new (λ r. Whole t (Full w t (touched r)) w w (renames name new r r.old)) each
+  rename_whole : (w : World) → Sound w → (r : Renaming) → rename_asks w t p name q new ≡ Ok r → Whole t (Full w t (touched w r)) w w (renames name new r r.old)
+  rename_whole w s = asked_all w t p q name new (λ r. Whole t (Full w t (touched w r)) w w (renames name new r r.old)) each
     where
       c : Coherent w
       c = s.coherent
 
-      each : (a b : Named) (l : Name × Header) → Asked w t p q name new a b l → let r : Renaming = renaming w new a b l in Whole t (Full w t (touched r)) w w (renames name new r r.old)
+      each : (a b : Named) (l : Name × Header) → Asked w t p q name new a b l → let r : Renaming = renaming w new a b l in Whole t (Full w t (touched w r)) w w (renames name new r r.old)
       each a b l f = by_old w b l r name new (Whole t T w w) refl f.old (λ there. whole_none s) (λ none. settled goings (tt, (tt, (tt, tt))) (stands s) (onward (stands s) (goes w t p q name new a b l f c s.linked none) (λ h at. at))) (λ m old other gives.
           settled (unlinking r.to new m ++ goings) (tt, (tt, (tt, (tt, (tt, tt))))) (stands s)
-          (piece_then (unlinking r.to new m) goings (tt, (tt, tt)) (stands s) (unlinking_piece r.to new m good (stands s) (removes w t p q name new a b l f c s.linked m old other gives) body empty (inl (inr (inr (inr (m, old, refl))))) (λ S ours. to S ours))
+          (piece_then (unlinking r.to new m) goings (tt, (tt, tt)) (stands s) (unlinking_piece r.to new m good (stands s) (removes w t p q name new a b l f c s.linked m old other gives) body empty (inl (inr (inr (inr (m, old, inl refl))))) (recounts_unlinked w m (λ x on. inl (inr (inr (inr (m, old, inr on)))))) (λ S ours. (to S ours, replaced S ours m old)))
           (λ d. onward d (left_goes w t p q name new a b l f c s.linked m old other gives) (λ h at. sym (left_header w r.to new m r.node (λ same. other (sym same))) ∙ at))))
         where
           r : Renaming
           r = renaming w new a b l
 
           T : Part → Type 0
-          T = Full w t (touched r)
+          T = Full w t (touched w r)
 
           goings : List Change
           goings = going r.from name r.node r.to new
@@ -365,6 +367,9 @@ module _ (t p q : ℕ) (name new : List ℕ) where
 
           to : (S : ℕ → Bool) → S t ≡ true → Sees S w (BodyOf r.to)
           to S ours = entries_seen t ours q b f.named.other f.trees.to
+
+          replaced : (S : ℕ → Bool) → S t ≡ true → (m : Name) → r.old ≡ Some m → Seen S w m
+          replaced S ours m old = child_seen t ours q b f.named.other f.trees.to new m (sym old)
 
           -- in a world where the node has the header that it had
           onward : {x : World} → Stands x → MayGo x r.from name r.node r.to new → ((h : Header) → header_at x r.node ≡ Some h → header_at w r.node ≡ Some h) → Piece t T w x goings

@@ -8,7 +8,7 @@ use Rattle.hurd_machine.specs.Change.{EditBody, EditHeader}
 use Rattle.hurd_machine.specs.Plan.{Plan, first, answered}
 use Rattle.hurd_machine.specs.Handle.{both_asks}
 use Rattle.hurd_machine.specs.Sight.{Part, AttrOf, EmptyOf, BodyOf}
-use Rattle.hurd_machine.specs.Touched.{asked_parts}
+use Rattle.hurd_machine.specs.Touched.{OnLinks, asked_parts}
 use Rattle.hurd_dirs.specs.declared.link.FileToName.{FileToName}
 use Rattle.hurd_dirs.specs.Entry.{name_asks, dir_asks}
 
@@ -28,9 +28,9 @@ link w name n =
 abbrev pub plan_link : World → ℕ → ℕ → List ℕ → ℕ → Plan
 plan_link w t p name q = answered (link_asks w t p name q) (λ n. link w name n)
 
--- a name for a file touches the entries of the directory, that it isn't empty, and how many links the file has
-abbrev pub OnName : FileToName → Part → Type 0
-OnName n a = (a ≡ BodyOf n.dir) ⊎ ((a ≡ EmptyOf n.dir) ⊎ (a ≡ AttrOf n.file))
+-- a name for a file touches the entries of the directory, that it isn't empty, how many links the file has, and where it is the first, the total
+abbrev pub OnName : World → FileToName → Part → Type 0
+OnName w n a = (a ≡ BodyOf n.dir) ⊎ ((a ≡ EmptyOf n.dir) ⊎ ((a ≡ AttrOf n.file) ⊎ OnLinks w n.file 0 a))
 
 abbrev pub touches_link : World → ℕ → ℕ → List ℕ → ℕ → Part → Type 0
-touches_link w t p name q = asked_parts (link_asks w t p name q) (λ n. asked_parts (links_at w n.dir name n.file) (λ u. OnName n))
+touches_link w t p name q = asked_parts (link_asks w t p name q) (λ n. asked_parts (links_at w n.dir name n.file) (λ u. OnName w n))

@@ -11,7 +11,7 @@ use Rattle.hurd_machine.specs.World.{World, header_at, body_at, words_at, home_a
 use Rattle.hurd_machine.specs.Change.{EditBody, EditHeader, Settle}
 use Rattle.hurd_machine.specs.Plan.{Plan, on, given, first, answered}
 use Rattle.hurd_machine.specs.Sight.{Part, AttrOf, EmptyOf, BodyOf}
-use Rattle.hurd_machine.specs.Touched.{asked_parts}
+use Rattle.hurd_machine.specs.Touched.{OnLinks, asked_parts}
 use Rattle.hurd_core.specs.PortNode.{header_with}
 use Rattle.hurd_dirs.specs.declared.remove.EntryNode.{EntryNode}
 use Rattle.hurd_dirs.specs.Entry.{entry_asks, may_take}
@@ -53,9 +53,9 @@ taking_asks w t p name =
 abbrev pub removing : List ℕ → Entered → Plan
 removing name x = record { reply = Done; changes = EditBody x.dir (without_entry name) ∷ EditHeader x.node unlinked ∷ Settle ∷ [] }
 
--- the entries of the directory, whether it is empty, and the links or the parent of what is removed
-abbrev pub OnEntry : Entered → Part → Type 0
-OnEntry x q = (q ≡ BodyOf x.dir) ⊎ ((q ≡ EmptyOf x.dir) ⊎ (q ≡ AttrOf x.node))
+-- the entries of the directory, whether it is empty, the links or the parent of what is removed, and where it is a file's last, the total
+abbrev pub OnEntry : World → Entered → Part → Type 0
+OnEntry w x q = (q ≡ BodyOf x.dir) ⊎ ((q ≡ EmptyOf x.dir) ⊎ ((q ≡ AttrOf x.node) ⊎ OnLinks w x.node 1 q))
 
 -- dir_unlink: an entry of anything but a directory
 abbrev pub unlink_asks : World → ℕ → ℕ → List ℕ → Result Entered Errno
@@ -65,7 +65,7 @@ abbrev pub plan_unlink : World → ℕ → ℕ → List ℕ → Plan
 plan_unlink w t p name = answered (unlink_asks w t p name) (removing name)
 
 abbrev pub touches_unlink : World → ℕ → ℕ → List ℕ → Part → Type 0
-touches_unlink w t p name = asked_parts (unlink_asks w t p name) OnEntry
+touches_unlink w t p name = asked_parts (unlink_asks w t p name) (OnEntry w)
 
 -- dir_rmdir: an entry of a directory on which no server is active, and that has no entries itself
 abbrev pub rmdir_asks : World → ℕ → ℕ → List ℕ → Result Entered Errno
@@ -79,4 +79,4 @@ abbrev pub plan_rmdir : World → ℕ → ℕ → List ℕ → Plan
 plan_rmdir w t p name = answered (rmdir_asks w t p name) (removing name)
 
 abbrev pub touches_rmdir : World → ℕ → ℕ → List ℕ → Part → Type 0
-touches_rmdir w t p name = asked_parts (rmdir_asks w t p name) OnEntry
+touches_rmdir w t p name = asked_parts (rmdir_asks w t p name) (OnEntry w)

@@ -14,7 +14,7 @@ use Rattle.hurd_machine.specs.Change.{Change, EditHeader, EditBody, Settle}
 use Rattle.hurd_machine.specs.Plan.{Plan, on, given, first, answered}
 use Rattle.hurd_machine.specs.Handle.{Named, both_asks}
 use Rattle.hurd_machine.specs.Sight.{Part, AttrOf, EmptyOf, BodyOf}
-use Rattle.hurd_machine.specs.Touched.{asked_parts}
+use Rattle.hurd_machine.specs.Touched.{OnLinks, asked_parts}
 use Rattle.hurd_core.specs.PortNode.{header_with}
 use Rattle.hurd_dirs.specs.declared.rename.Renaming.{Renaming}
 use Rattle.hurd_dirs.specs.Entry.{name_asks, may_change, may_take}
@@ -116,4 +116,4 @@ plan_rename w t p name q new = answered (rename_asks w t p name q new) (λ r. re
 abbrev pub touches_rename : World → ℕ → ℕ → List ℕ → ℕ → List ℕ → Part → Type 0
 touches_rename w t p name q new =
     asked_parts (rename_asks w t p name q new) (λ r a.
-    ((a ≡ BodyOf r.from) ⊎ (a ≡ EmptyOf r.from)) ⊎ (((a ≡ BodyOf r.to) ⊎ (a ≡ EmptyOf r.to)) ⊎ ((a ≡ AttrOf r.node) ⊎ ((m : Name) × (r.old ≡ Some m) × (a ≡ AttrOf m)))))
+    ((a ≡ BodyOf r.from) ⊎ (a ≡ EmptyOf r.from)) ⊎ (((a ≡ BodyOf r.to) ⊎ (a ≡ EmptyOf r.to)) ⊎ ((a ≡ AttrOf r.node) ⊎ ((m : Name) × (r.old ≡ Some m) × ((a ≡ AttrOf m) ⊎ OnLinks w m 1 a)))))

@@ -27,7 +27,7 @@ resized_by w t p n is = let h = first_ok _ _ n is in (h.0, h.1, cc (h.2))
 pub set_size_laws : (t p size : ℕ) → CallLaws t (λ w. plan_set_size w t p size) (λ w. touches_set_size w t p size)
 set_size_laws t p size = record {
   piece = λ w s. answered_piece s (set_size_asks w t p) _ _ (λ n is. answered_piece s (asked_at (resizing size) n w) _ _ (λ d told.
-      did_whole s (resizing size) (λ k. ((good k).set_size_sizes size, cut_holds size k)) n d told (λ q on. inl on)));
+      did_whole s (resizing size) (λ k. ((good k).set_size_sizes size, cut_holds size k)) n d told (λ q on. inl on) (λ S ours. let h = resized_by w t p n is in subst (Seen S w) h.2 (handle_seen t ours p WRITE h.0 h.1))));
   same = λ S v w c d a ours. answered_same _ _ _ _ (first_same _ _ _ _ (handle_same a t ours p WRITE) (λ h is. refl)) (λ n is.
       let h = resized_by v t p n is in
       let seen : Seen S v n = subst (Seen S v) h.2 (handle_seen t ours p WRITE h.0 h.1) in

@@ -29,7 +29,7 @@ plan_set_size w t p size =
     answered (set_size_asks w t p) (λ n. answered (asked_at (resizing size) n w) (λ d. record { reply = Done; changes = changes_of (edits_of n (Ok d)) }))
 
 abbrev pub touches_set_size : World → ℕ → ℕ → ℕ → Part → Type 0
-touches_set_size w t p size = asked_parts (set_size_asks w t p) (λ n. asked_parts (asked_at (resizing size) n w) (λ d. OnDid n d))
+touches_set_size w t p size = asked_parts (set_size_asks w t p) (λ n. asked_parts (asked_at (resizing size) n w) (λ d. OnDid w n d))
 
 -- a size that needs no memory: it is refused before the server is asked, or is a cut, or of a stream
 abbrev pub free_set_size : World → ℕ → ℕ → ℕ → Type 0

@@ -86,15 +86,15 @@ module _ (w : World) (t : ℕ) (n : Name) (h : Header) (there : (k : Header) × 
     not_boot q e = (st.coherent.seating.seated n q e).0
 
     -- it comes, and another that is active there goes for it, or none; that writes what may be parts of a world like this one
-    pub comings_whole : {T : Part → Type 0} {v : World} → T (TaskOf t) → T (AttrOf root) → T (EmptyOf root) → T (BodyOf root) → T (EndsOf root) → T (OptionsOf s) → T (TextOf s) → T (AttrOf n) → (old : Option Name)
+    pub comings_whole : {T : Part → Type 0} {v : World} → T (TaskOf t) → T (AttrOf root) → T (EmptyOf root) → T (BodyOf root) → T (EndsOf root) → T (OptionsOf s) → T (TextOf s) → T (TotalOf s) → T (AttrOf n) → (old : Option Name)
         → ((q : Name) → old ≡ Some q → active_at w n ≡ Some q) → ((q : Name) → old ≡ Some q → (p : Part) → Goes w q p → T p) → AimsAtSeen t v info → Whole t T v w (attaching t (seat_on n h m old false) (server_ids h.owner) targets m x)
-    comings_whole task attr empty body ends options text seat None is_old parts aims =
-        settled (Attach s n info node ∷ []) (tt, tt) st (comes_piece st s n info node newcomer begins task attr empty body ends seat options text aims)
-    comings_whole task attr empty body ends options text seat (Some q) is_old parts aims =
+    comings_whole task attr empty body ends options text total seat None is_old parts aims =
+        settled (Attach s n info node ∷ []) (tt, tt) st (comes_piece st s n info node newcomer begins task attr empty body ends seat options text total aims)
+    comings_whole task attr empty body ends options text total seat (Some q) is_old parts aims =
         let e = is_old q refl in
         settled (DropServer q ∷ Attach s n info node ∷ []) (tt, (tt, tt)) st
         (piece_then (DropServer q ∷ []) (Attach s n info node ∷ []) (tt, tt) st (goes_piece st q (not_boot q e) (parts q refl))
-        (λ d. comes_piece d s n info node (comes_after w st.coherent q (not_boot q e) s n info node (other q e) newcomer) begins task attr empty body ends seat options text aims))
+        (λ d. comes_piece d s n info node (comes_after w st.coherent q (not_boot q e) s n info node (other q e) newcomer) begins task attr empty body ends seat options text total aims))
 
 -- a task that has names, or room, left is there
 

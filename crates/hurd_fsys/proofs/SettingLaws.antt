@@ -134,7 +134,7 @@ module _ (t p : ℕ) (f : Setting) where
           let aims = aims_like w v n.right.node (like w n k) m targets (aims_fit w (stands s) (lent n.right.ids n.header.owner) ENXIO refl m targets found (targets_seen (λ u. true) refl m targets found)) in
           with_words (attaching t (seat_on n.right.node n.header m (leaver f old) false) (server_ids n.header.owner) targets m x) (λ y.
           comings_whole v t n.right.node n.header (like w n k).there m x (ap (λ (ts : List Task). slice_get ts t) tasks ∙ is) targets aims (stands y) (own_task w t (seat_parts w f n.right.node old)) (inr (inr later)) (inr (inr later))
-          (inr (inr later)) (inr (inr later)) (inr (inr (fresh_new w t x is))) (inr (inr (fresh_new w t x is))) (inl (inl refl)) (leaver f old) (λ q is. ap (λ (rs : NameMap Site). active_in rs n.right.node) (like w n k).sites ∙ (e ∙ leaver_is old q is)) left_here (λ S ours q among. inl (targets_seen S ours m targets found q among))))
+          (inr (inr later)) (inr (inr later)) (inr (inr (fresh_new w t x is))) (inr (inr (fresh_new w t x is))) (inr (inr (fresh_new w t x is))) (inl (inl refl)) (leaver f old) (λ q is. ap (λ (rs : NameMap Site). active_in rs n.right.node) (like w n k).sites ∙ (e ∙ leaver_is old q is)) left_here (λ S ours q among. inl (targets_seen S ours m targets found q among))))
 
     half_whole : (w : World) → Sound w → (n : Named) → Owner t p w n → (b : Bool) → Whole t (Full w t (parts_where b w f box n)) w w (setting_where b w t f words box n).changes
     half_whole w s n k true = whole_none s

@@ -109,7 +109,7 @@ module _ (t : ℕ) (m : Meaning) where
           let later = later_new w t 1 a.task at in
           let aims = targets_fit st a.header.owner a.targets b.aims (targets_seen {S = λ u. true} refl a.task at a.header.owner a.targets b.aims) in
           starts_whole (stands st) (fresh t a.task) s.node _ _ (newcomer w t s.node a.header (a.header, b.there) m a.task at a.targets aims) (begins w t s.node a.header (a.header, b.there) m a.task at a.targets aims)
-          (own_task w t (parts s (Ok a))) (inr (inr later)) (inr (inr later)) (inr (inr later)) (inr (inr later)) (inl refl) (inr (inr (fresh_new w t a.task at))) (inr (inr (fresh_new w t a.task at)))
+          (own_task w t (parts s (Ok a))) (inr (inr later)) (inr (inr later)) (inr (inr later)) (inr (inr later)) (inl refl) (inr (inr (fresh_new w t a.task at))) (inr (inr (fresh_new w t a.task at))) (inr (inr (fresh_new w t a.task at)))
           (λ S ours q among. inl (targets_seen ours a.task at a.header.owner a.targets b.aims q among))
 
   -- in worlds that agree

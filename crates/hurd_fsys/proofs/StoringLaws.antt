@@ -2,7 +2,7 @@
 use Rattle.std.proofs.Common.{◌≡◌, ◌≢◌, ◌⊎◌, ◌∙◌, ℕ, Bool, true, false, if◌then◌else◌, List, [], ◌∷◌, Option, Some, None, refl, sym, ap, ap₂, subst, inl, inr}
 use Rattle.std.specs.Prelude.{Ok, Err, is_some}
 use Rattle.std.specs.Option.{option_map}
-use Rattle.hurd_machine.proofs.Common.{AttrOf, Below, BodyOf, Change, EINVAL, EditHeader, EmptyOf, EndsOf, Errno, Header, Meaning, Name, NameMap, Named, Node, NodeMap, OptionsOf, TextOf, Owns, OwnsIt, Part, ServerInfo, Site, Sound, Task, UsersOf, World, active_in, apply_all, edit, edit_by, first, get, has_words, header_at, home_in, info_at, info_in, node_at, on, passive_of, port_asks, sets_attrs_at, shape_by, some_words, tree_by, with_header, with_passive, words_at, words_in}
+use Rattle.hurd_machine.proofs.Common.{AttrOf, Below, BodyOf, Change, EINVAL, EditHeader, EmptyOf, EndsOf, Errno, Header, Meaning, Name, NameMap, Named, Node, NodeMap, OptionsOf, TextOf, Owns, OwnsIt, Part, ServerInfo, Site, Sound, Task, TotalOf, UsersOf, World, active_in, apply_all, edit, edit_by, first, get, has_words, header_at, home_in, info_at, info_in, node_at, on, passive_of, port_asks, sets_attrs_at, shape_by, some_words, tree_by, with_header, with_passive, words_at, words_in}
 use Rattle.hurd_creds.proofs.NameLaws.{same_map_by, same_or_apart, edit_here, edit_apart}
 use Rattle.hurd_machine.specs.World.{nodes_of}
 use Rattle.hurd_machine.specs.Touched.{Goes}
@@ -36,6 +36,7 @@ goes_like w v n k q (EndsOf m) e = ap (λ (rs : NameMap Site). home_in rs m) (sy
 goes_like w v n k q (OptionsOf s) e = e
 goes_like w v n k q (TextOf s) e = e
 goes_like w v n k q (UsersOf s) e = e
+goes_like w v n k q (TotalOf s) e = e
 goes_like w v n k q _ e = absurd e
 
 -- targets that a server may have in the one it may have in the other
@@ -82,7 +83,7 @@ module _ (n : Name) (words : List (List ℕ)) where
   pub storing_whole : {t : ℕ} {T : Part → Type 0} {w : World} → Sound w → tree_by (info_at w n) ≡ true → (h : Header) → header_at w n ≡ Some h → T (AttrOf n) → ((S : ℕ → Bool) → S t ≡ true → OwnsIt S w h) → (b : Bool) → Whole t T w w (storing_if b)
   storing_whole {t} {T} {w} s tree h at attr owns false = whole_none s
   storing_whole {t} {T} {w} s tree h at attr owns true =
-      quiet (storing_if true) (λ k e. e, tt) s (of_header n (with_passive words) (λ k. (refl, refl, refl)) (λ k. refl) (tree_header w n (with_passive words) tree) (stands s) attr (λ S ours. (λ k there. less S (owns S ours) k (cc (at, there)), tt)))
+      quiet (storing_if true) (λ k e. e, tt) s (of_header n (with_passive words) (λ k. (refl, refl, refl)) (λ k. refl) (tree_header w n (with_passive words) tree) (stands s) attr (inr (inl (λ k there. refl))) (λ S ours. ((λ k there. less S (owns S ours) k (cc (at, there)), inl (λ k. refl)), tt)))
     where
       less : (S : ℕ → Bool) → OwnsIt S w h → (k : Header) → h ≡ k → Less S w n (with_passive words k) k
       less S o k same = rw (← same) (record { kind = refl; parent = λ p e. inl e; could = λ want c. Owns o.0 o.1 o.2; owns = λ z. o })

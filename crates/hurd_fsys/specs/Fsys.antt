@@ -1,5 +1,5 @@
 -- Sending servers away, getting control of them, and their options: asked for, and given.
-use Rattle.std.specs.Prelude.{◌≡◌, ◌⊎◌, ◌==◌, ◌||◌, ◌&&◌, not, ℕ, Bool, false, List, [], ◌∷◌, Option, Some, None, Result, Ok}
+use Rattle.std.specs.Prelude.{◌≡◌, ◌⊎◌, ◌==◌, ◌||◌, ◌&&◌, not, ℕ, Bool, true, false, List, [], ◌∷◌, Option, Some, None, Result, Ok}
 use Rattle.hurd_creds.specs.declared.name.Name.{Name}
 use Rattle.hurd_creds.specs.declared.errno.Errno.{Errno}
 use Rattle.hurd_creds.specs.declared.errno.Errno.TheVariants.{EBUSY, EDIED, ENXIO, EPERM}
@@ -7,7 +7,7 @@ use Rattle.hurd_creds.specs.declared.trans_flags.GoawayFlags.{GoawayFlags}
 use Rattle.hurd_creds.specs.Access.{IdSets, holds_uid, is_root, least_uid}
 use Rattle.hurd_creds.specs.Names.{same_name}
 use Rattle.hurd_creds.specs.TransBits.{asks_goaway, FORCE}
-use Rattle.hurd_trans_iface.specs.Meaning.{options_of}
+use Rattle.hurd_trans_iface.specs.Meaning.{keeps_tree, options_of}
 use Rattle.hurd_nodes.specs.Shown.{ServerInfo, boot_name, takes_options}
 use Rattle.hurd_ports.specs.declared.table.Right.TheVariants.{Control}
 use Rattle.hurd_ports.specs.Steps.{with_port}
@@ -16,7 +16,7 @@ use Rattle.hurd_machine.specs.World.{World, ports_of, active_at, home_at, server
 use Rattle.hurd_machine.specs.Change.{Change, EditTask, DropServer, Settle}
 use Rattle.hurd_machine.specs.Plan.{Plan, on, given, first, answered, looks}
 use Rattle.hurd_machine.specs.Handle.{port_asks}
-use Rattle.hurd_machine.specs.Sight.{Part, AttrOf, TextOf, users}
+use Rattle.hurd_machine.specs.Sight.{Part, AttrOf, OptionsOf, TextOf, users}
 use Rattle.hurd_machine.specs.Touched.{asked_parts, Nothing, Goes}
 use Rattle.hurd_core.specs.Core.{room_asks}
 use Rattle.hurd_core.specs.Control.{control_of, plan_options}
@@ -100,9 +100,9 @@ touches_get_options w t c = Nothing
 abbrev pub plan_set_options : World → ℕ → ℕ → List (List ℕ) → Plan
 plan_set_options w t c words = answered (control_of (ports_of w) t c) (λ s. plan_options w s words)
 
--- the server's text, and its root's attributes
+-- the server's text; of a tree, that it is told to whoever knows the tree, of any other server its root's attributes
 abbrev pub options_parts : Name → ServerInfo → Part → Type 0
-options_parts s i p = (p ≡ TextOf s) ⊎ (p ≡ AttrOf i.root)
+options_parts s i p = (p ≡ TextOf s) ⊎ (((keeps_tree i.kind ≡ true) × (p ≡ OptionsOf s)) ⊎ ((keeps_tree i.kind ≡ false) × (p ≡ AttrOf i.root)))
 
 abbrev pub touches_set_options : World → ℕ → ℕ → List (List ℕ) → Part → Type 0
 touches_set_options w t c words =

@@ -53,6 +53,8 @@ pub record IoLaws {T : Type 0} (t : ℕ) (asks : World → Result IoAt Errno) (q
   pub reply_plain : (x : T) → is_refused (reply x) ≡ false
   -- and sizes stay right, and in nodes is what may be there
   pub keeps : (w : World) (a : IoAt) → KeepsNodes (q w a)
+  -- the node is one that the task has open
+  pub node_seen : (S : ℕ → Bool) (w : World) → S t ≡ true → (a : IoAt) → asks w ≡ Ok a → Seen S w a.node
 
 module _ {T : Type 0} (t : ℕ) (asks : World → Result IoAt Errno) (q : World → IoAt → Question T) (reply : T → Reply) (count : T → ℕ) (l : IoLaws t asks q reply) where
   -- what the server does to the node, and then the cursor
@@ -62,13 +64,13 @@ module _ {T : Type 0} (t : ℕ) (asks : World → Result IoAt Errno) (q : World 
   abbrev moves : IoAt → Did T → List Change
   moves a d = moved a.offset a.is_stream a.open_name (past a.at (count d.told))
 
-  abbrev parts : IoAt → Did T → Part → Type 0
-  parts a d p = OnDid a.node d p ⊎ Moves a.offset a.is_stream a.open_name p
+  abbrev parts : World → IoAt → Did T → Part → Type 0
+  parts w a d p = OnDid w a.node d p ⊎ Moves a.offset a.is_stream a.open_name p
 
   pub io_laws : CallLaws t (λ w. plan_io w (asks w) (q w) reply count) (λ w. touches_io w (asks w) (q w))
   io_laws = record {
-    piece = λ w s. answered_piece s (asks w) _ _ (λ a is. answered_piece s (asked_at (q w a) a.node w) _ (λ d p. parts a d p) (λ d told.
-        whole_then (edits a d) (moves a d) (did_exact a.node d) s (did_whole s (q w a) (l.keeps w a) a.node d told (λ p on. inl (inl on)))
+    piece = λ w s. answered_piece s (asks w) _ _ (λ a is. answered_piece s (asked_at (q w a) a.node w) _ (λ d p. parts w a d p) (λ d told.
+        whole_then (edits a d) (moves a d) (did_exact a.node d) s (did_whole s (q w a) (l.keeps w a) a.node d told (λ p on. inl (inl on)) (λ S ours. l.node_seen S w ours a is))
         (λ x. moved_whole x a.offset a.is_stream a.open_name _ (λ p on. inl (inr on)))));
     same = λ S v w c d a ours. answered_same _ _ _ _ (l.asks_same S v w a ours) (λ x is. answered_same _ _ _ _ (l.told_same S v w c a ours x is) (λ d told. refl));
     plain = λ w. answered_plain _ _ (l.asks_plain w) (λ a is.
@@ -98,6 +100,7 @@ read_laws t p amount offset = io_laws t (λ w. read_asks w t p offset) (reads am
   told_plain = λ w a k. (good k).read_plain a.at (min amount most_read) (writers_at w a.node);
   reply_plain = λ bytes. refl;
   keeps = λ w a k. ((good k).read_sizes a.at (min amount most_read) (writers_at w a.node), read_holds a.at (min amount most_read) (writers_at w a.node) k);
+  node_seen = λ S w ours x is. let h = read_by w t p offset x is in subst (Seen S w) h.2 (handle_seen t ours p READ h.0 h.1);
 })
 
 -- io_write: it asks of a node that the caller has open to write, and is told nothing of its body, unless its server is told who reads: then it sees that.
@@ -121,6 +124,7 @@ write_laws t p bytes offset = io_laws t (λ w. write_asks w t p offset) (writes 
   asks_plain = λ w. first_plain _ _ (handle_plain w t p WRITE) (λ h is. first_plain _ _ (offset_plain offset) (λ o e. ok_plain _));
   told_plain = λ w a k. (good k).write_plain a.at bytes (readers_at w a.node);
   reply_plain = λ taken. refl;
+  node_seen = λ S w ours x is. let h = written_by w t p offset x is in subst (Seen S w) h.2 (handle_seen t ours p WRITE h.0 h.1);
   keeps = λ w a k. ((good k).write_sizes a.at bytes (readers_at w a.node), write_holds a.at bytes (readers_at w a.node) k);
 })
 

@@ -25,7 +25,7 @@ parts_of (Ok a) k p h on = h a refl on
 pub record Touches {T : Type 0} (w : World) (t p mode : ℕ) (q : IoAt → Question T) (k : Part) : Type 0 where
   pub handle : Handle
   pub is_handle : handle_asks w t p mode ≡ Ok handle
-  pub on : ((at : IoAt) × (d : Did T) × (asked_at (q at) handle.node w ≡ Ok d) × OnDid handle.node d k) ⊎ (k ≡ OpenOf handle.open_name)
+  pub on : ((at : IoAt) × (d : Did T) × (asked_at (q at) handle.node w ≡ Ok d) × OnDid w handle.node d k) ⊎ (k ≡ OpenOf handle.open_name)
 
 -- what a port has open for this, where a call on it begins
 pub record HandleOf (w : World) (t p mode : ℕ) (a : IoAt) : Type 0 where
@@ -50,7 +50,7 @@ write_handle w t p offset a is =
     record { handle = h.0; is_handle = h.1; node = ap (λ (z : IoAt). z.node) same; open_name = ap (λ (z : IoAt). z.open_name) same }
 
 touched : {T : Type 0} (w : World) (t p mode : ℕ) (q : IoAt → Question T) (k : Part) (a : IoAt) (d : Did T) → HandleOf w t p mode a
-    → asked_at (q a) a.node w ≡ Ok d → OnDid a.node d k ⊎ Moves a.offset a.is_stream a.open_name k → Touches w t p mode q k
+    → asked_at (q a) a.node w ≡ Ok d → OnDid w a.node d k ⊎ Moves a.offset a.is_stream a.open_name k → Touches w t p mode q k
 touched w t p mode q k a d h told on = record {
   handle = h.handle;
   is_handle = h.is_handle;

@@ -71,7 +71,7 @@ plan_io w asks q reply count =
     answered asks (λ a. answered (asked_at (q a) a.node w) (λ d. record { reply = reply d.told; changes = io_changes a d (count d.told) }))
 
 abbrev pub touches_io : {T : Type 0} → World → Result IoAt Errno → (IoAt → Question T) → Part → Type 0
-touches_io w asks q = asked_parts asks (λ a. asked_parts (asked_at (q a) a.node w) (λ d p. OnDid a.node d p ⊎ Moves a.offset a.is_stream a.open_name p))
+touches_io w asks q = asked_parts asks (λ a. asked_parts (asked_at (q a) a.node w) (λ d p. OnDid w a.node d p ⊎ Moves a.offset a.is_stream a.open_name p))
 
 -- a read or a write that needs no memory: it is refused before the server is asked, or needs none there, at the place that is asked for
 abbrev pub free_io : World → Result IoAt Errno → (IoAt → Name → NodeState → Type 0) → Type 0

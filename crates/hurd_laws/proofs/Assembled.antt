@@ -78,6 +78,7 @@ old_named w (OpenOf o) old new = new old
 old_named w (OptionsOf s) old new = new old
 old_named w (TextOf s) old new = new old
 old_named w (UsersOf s) old new = new old
+old_named w (TotalOf s) old new = new old
 old_named w (TaskOf t) old new = new
 
 pub changes_touched : ChangesTouched

@@ -4,7 +4,7 @@ use Rattle.hurd_creds.specs.declared.name.Name.{Name}
 use Rattle.hurd_ports.specs.Tables.{Task}
 use Rattle.hurd_machine.specs.Calls.{Call, lacks_memory}
 use Rattle.hurd_machine.specs.World.{World, task_at}
-use Rattle.hurd_machine.specs.Sight.{Seen, Part, AttrOf, EmptyOf, BodyOf, EndsOf, OpenOf, OptionsOf, TextOf, UsersOf, TaskOf, Sees, SameView, IsGone, part}
+use Rattle.hurd_machine.specs.Sight.{Seen, Part, AttrOf, EmptyOf, BodyOf, EndsOf, OpenOf, OptionsOf, TextOf, UsersOf, TotalOf, TaskOf, Sees, SameView, IsGone, part}
 use Rattle.hurd_machine.specs.Sound.{Sound, Below}
 use Rattle.hurd_laws.specs.Step.{reply_of, after, touches}
 use Rattle.hurd_laws.specs.Runs.{TaskCall, run, calls_of, replies_to, worlds_of, SameViews, TouchesUnseen, Quiet, Unmoved}
@@ -19,6 +19,7 @@ IsOld w (OpenOf o) = Below w o
 IsOld w (OptionsOf s) = Below w s
 IsOld w (TextOf s) = Below w s
 IsOld w (UsersOf s) = Below w s
+IsOld w (TotalOf s) = Below w s
 IsOld w (TaskOf t) = Unit {0}
 
 -- a step changes touched parts, its caller's own task and new things alone; what of the others doesn't stay as it was is gone

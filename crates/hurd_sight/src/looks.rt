@@ -231,8 +231,7 @@ impl Sight {
     fn sees_total<S: Server>(&self, nodes: &Nodes<S>, server: ServerName) -> bool
         ensures { result ≡ shows_total (shown S.meaning nodes.now) self.now server }
     {
-        nodes.total_of(server).is_some()
-            && (nodes.has_limit(server) || self.is_commanded(server))
+        nodes.total_of(server).is_some() && (nodes.has_limit(server) || self.is_commanded(server))
     }
 
     /// Whether a task is one of the set.
