@@ -228,7 +228,7 @@ abbrev pub spaced_text : List ℕ → List ℕ
 spaced_text [] = []
 spaced_text (b ∷ bs) = 32 ∷ spelled (b ∷ bs)
 
--- the program of a server, and behind it the text that whoever knows the server is told: a link's, or a tree's, which is its limit
+-- the program of a server, and behind it the text that whoever knows it is told: a link's, or a tree's, which is its limit
 abbrev pub program_text : ServerRow → List ℕ
 program_text s = spelled_or_none s.program ++ spaced_text s.text
 
@@ -273,7 +273,7 @@ node_parts v n r =
     (body_part (program_of v n r.attributes) r.body))
     (empty_part r.body r.empty)
 
--- all that is seen under a name, by its parts; at last how many rights there are on a server's nodes, and what the files of a tree have in all
+-- all that is seen under a name, by its parts; at last the users of a server, and the total of a tree
 abbrev pub seen_of : View → Name → Row → List ℕ
 seen_of v n r =
     with_part (with_part (with_part (server_parts v (with_part (with_part (with_part (node_parts v n r)
