@@ -10,9 +10,10 @@ use Rattle.hurd_machine.proofs.Common.{ABody, AText, ATask, ATotal, AUsers, AnAt
 use Rattle.hurd_machine.proofs.Faces.{face_in, face_reads, root_told, text_in, whole}
 use Rattle.hurd_machine.proofs.Views.{text_known}
 use Rattle.hurd_nodes.proofs.Sites.{home_by, active_by, site_by}
+use Rattle.hurd_trans_iface.specs.Answers.{is_tree}
 use Rattle.hurd_trans_iface.specs.Nodes.{Entry}
 use Rattle.hurd_trans_iface.specs.Meaning.{ServerKind, all_kinds, behaviour_of, root_of}
-use Rattle.hurd_trans_iface.specs.Texts.{is_link, is_tree, told_text}
+use Rattle.hurd_trans_iface.specs.Texts.{is_link, told_text}
 use Rattle.hurd_trans_iface.specs.declared.root.Root.{Root}
 use Rattle.hurd_trans_iface.proofs.Goods.{good, kind_among, kind_named}
 use Rattle.hurd_machine.specs.World.{nodes_of}
@@ -361,8 +362,8 @@ module _ (tasks : List TaskId) (v w : World) (a b : View) (sound_v : Sound v) (s
         let e : ATotal (total_at w n) ≡ ATotal (total_at v n) = equal (seen.Total n) on in
         let total : total_at v n ≡ total_at w n = cc in
         let sums : Some (sum_at v n) ≡ Some (sum_at w n) =
-                sym (total_there S v n ((says_v (seen.Total n)).0 on))
-                ∙ (total ∙ total_there S w n ((says_w (seen.Total n)).0 (sym (both (seen.Total n)) ∙ on))) in
+        sym (total_there S v n ((says_v (seen.Total n)).0 on))
+        ∙ (total ∙ total_there S w n ((says_w (seen.Total n)).0 (sym (both (seen.Total n)) ∙ on))) in
         cc
 
     row_same : (n : Name) → row_of v a.sight n ≡ row_of w b.sight n

@@ -95,6 +95,14 @@ row_of w v n = record {
   total = told_if (sees_with (nodes_of w) v (seen.Total n)) (total_in (nodes_in w.nodes w.sites n));
 }
 
+-- rows that are the same, in two parts
+
+abbrev pub HaveSameNode : Row → Row → Type 0
+HaveSameNode a b = (a.attributes ≡ b.attributes) × (a.empty ≡ b.empty) × (a.body ≡ b.body) × (a.ends ≡ b.ends) × (a.opened ≡ b.opened)
+
+abbrev pub HaveSameServer : Row → Row → Type 0
+HaveSameServer a b = (a.server ≡ b.server) × (a.text ≡ b.text) × (a.users ≡ b.users) × (a.total ≡ b.total)
+
 -- nothing is seen
 abbrev pub no_row : Row
 no_row = record { attributes = None; empty = None; body = None; ends = None; opened = None; server = None; text = None; users = None; total = None }

@@ -1,6 +1,6 @@
 //! What is seen of things that have a name, as it can be kept and compared.
 ghost use Rattle.std.specs.Prelude.{◌≡◌, ◌↔◌, IfOk, IsTrue};
-ghost use Rattle.hurd_views.specs.Views.{HaveSameAccess, HaveSameMarks, HaveSamePlace, no_row};
+ghost use Rattle.hurd_views.specs.Views.{HaveSameAccess, HaveSameMarks, HaveSameNode, HaveSamePlace, HaveSameServer, no_row};
 
 use hurd_creds::{Attrs, Bytes, Ids, Name, NodeName, Same, ServerName, all_same};
 use hurd_ports::{Ends, Opened};
@@ -303,12 +303,25 @@ impl Row {
     pub fn is_same(&self, other: &Row) -> bool
         ensures { IsTrue result ↔ (self.now ≡ other.now) }
     {
+        self.has_same_node(other) && self.has_same_server(other)
+    }
+
+    /// Whether these say the same of a node or an open.
+    fn has_same_node(&self, other: &Row) -> bool
+        ensures { IsTrue result ↔ HaveSameNode self.now other.now }
+    {
         self.attributes.same(&other.attributes)
             && self.empty == other.empty
             && self.body.same(&other.body)
             && self.ends == other.ends
             && self.opened == other.opened
-            && self.server.same(&other.server)
+    }
+
+    /// Whether these say the same of a server.
+    fn has_same_server(&self, other: &Row) -> bool
+        ensures { IsTrue result ↔ HaveSameServer self.now other.now }
+    {
+        self.server.same(&other.server)
             && self.text.same(&other.text)
             && self.users == other.users
             && self.total == other.total
