@@ -1,14 +1,8 @@
 -- What is kept of entries and of opens is what the world has.
 use Rattle.std.proofs.Common.{◌≡◌, ◌∙◌, sym, refl, ap, ℕ, ◌+◌, ◌<◌, ◌≤◌, Bool, true, List, [], ◌∷◌, ◌++◌, take, take_all, length, get_or}
-use Rattle.std.specs.Prelude.{◌||◌, Option, Some, None, is_some}
-use Rattle.std.specs.FinMap as fin
-use Rattle.std.proofs.lemmas.Bool.{and_parts}
+use Rattle.std.specs.Prelude.{Option, Some, None}
 use Rattle.std.proofs.lemmas.List.{take_more}
-use Rattle.hurd_machine.proofs.Common.{Body, Name, NodeState, Opened, entry_of, limit_by, nodes_in, total_if, total_in, total_of, tree_by}
-use Rattle.hurd_sight.specs.Looks.{sees_with, shows_total}
-use Rattle.hurd_sight.specs.Parts.{is_in}
-use Rattle.hurd_sight.specs.declared.looks.Sight.{Sight}
-use Rattle.hurd_sight.specs.declared.parts.SeenPart.TheVariants as seen
+use Rattle.hurd_machine.proofs.Common.{Body, Name, Opened, entry_of}
 use Rattle.hurd_views.specs.Views.{entry_before, rows_in, told_if}
 use Rattle.hurd_views.specs.declared.rows.EntryRow.{EntryRow}
 use Rattle.hurd_views.specs.declared.rows.OpenRow.{OpenRow}
@@ -39,10 +33,3 @@ rows_all b ns i past rows = rows ∙ ap (rows_in b) (take_all i ns past)
 -- an open that is seen
 pub open_told : (b : Bool) (o p : Option Opened) (h k : ℕ) → true ≡ b → o ≡ p → h ≡ k → ◌≡◌ {A = Option OpenRow} (Some (record { opened = o; holders = h })) (told_if b (record { opened = p; holders = k }))
 open_told b o p h k on same counted = ap (λ (t : Bool). told_if t (record { opened = o; holders = h })) on ∙ rw (same, counted) refl
-
--- a total that is seen is of a server that is there, and keeps a tree
-pub total_told : (h : NodeState) (v : Sight) (s : Name) → true ≡ sees_with h v (seen.Total s) → total_of h s ≡ told_if (sees_with h v (seen.Total s)) (total_in (nodes_in h.nodes h.sites s))
-total_told h v s on =
-    let p = and_parts (sees_with h v (seen.Options s)) (shows_total h v s) (sym on) in
-    let q = and_parts (tree_by (fin.get h.servers s)) (is_some (limit_by (fin.get h.servers s)) || (is_in s v.sendable || is_in s v.rights.controlled)) p.1 in
-    ap (λ (b : Bool). total_if b (total_in (nodes_in h.nodes h.sites s))) q.0 ∙ ap (λ (b : Bool). told_if b (total_in (nodes_in h.nodes h.sites s))) on
