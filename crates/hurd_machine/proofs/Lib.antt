@@ -55,3 +55,4 @@ pub mod Renames
 pub mod Servers
 pub mod Going
 pub mod Pending
+pub mod RenamedMaps
