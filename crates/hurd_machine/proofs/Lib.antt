@@ -56,3 +56,5 @@ pub mod Servers
 pub mod Going
 pub mod Pending
 pub mod RenamedMaps
+pub mod RenamedNodes
+pub mod RenamedServers
