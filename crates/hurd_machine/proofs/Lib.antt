@@ -58,3 +58,7 @@ pub mod Pending
 pub mod RenamedMaps
 pub mod RenamedNodes
 pub mod RenamedServers
+pub mod RenamedPlans
+pub mod RenamedAsks
+pub mod RenamedTasks
+pub mod RenamedHandles
