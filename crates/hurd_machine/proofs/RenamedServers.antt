@@ -7,7 +7,7 @@ use Rattle.hurd_nodes.specs.Needs.{streams_by}
 use Rattle.hurd_nodes.specs.Shown.{options_in, space_for, space_at as space_of}
 use Rattle.hurd_ports.specs.declared.table.Ends.{Ends}
 use Rattle.hurd_ports.specs.Tables.{ends}
-use Rattle.hurd_machine.proofs.Common.{Header, Name, NameMap, Node, NodeMap, OpenMap, Opened, ServerInfo, Site, World, READ, WRITE, asks, counts_at, counts_by, counts_for, ends_at, ends_of, get, gives_text, home_at, home_in, info_at, info_in, is_dir, is_end, is_home, is_removed, is_root_at, is_root_of, is_server_root, limit_by, nodes_in, one_if, only_reads, open_at, retain_keys, same_name, server_at, shape_at, shape_by, space_at, space_with, stream_at, targets_at, targets_in, total_at, total_if, total_in, tree_by}
+use Rattle.hurd_machine.proofs.Common.{Header, Name, NameMap, Node, NodeMap, OpenMap, Opened, ServerInfo, Site, World, READ, WRITE, asks, counts_at, counts_by, counts_for, ends_at, ends_of, get, gives_text, home_at, home_in, info_at, info_in, is_dir, is_end, is_home, is_removed, is_root_at, is_root_of, is_server_root, leads_on, limit_by, nodes_in, one_if, only_reads, open_at, retain_keys, same_name, server_at, shape_at, shape_by, space_at, space_with, stream_at, targets_at, targets_in, total_at, total_if, total_in, tree_by}
 use Rattle.hurd_machine.specs.World.{nodes_of, readers_at, readers_in, writers_at, writers_in}
 use Rattle.hurd_machine.specs.Renamed.{Renaming, header_renamed, info_renamed, map_renamed, node_renamed, open_renamed, renamed, site_renamed}
 use Rattle.hurd_creds.proofs.Sums.{total}
@@ -75,6 +75,9 @@ module _ (f : Renaming) where
 
     pub shape_at-renamed : shape_at (nodes_of (renamed f w)) (f.to n) ≡ shape_at (nodes_of w) n
     shape_at-renamed = ap shape_by info_at-renamed ∙ shape_by-renamed (info_at w n)
+
+    pub leads_on-renamed : leads_on (shape_at (nodes_of (renamed f w)) (f.to n)) ≡ leads_on (shape_at (nodes_of w) n)
+    leads_on-renamed = ap leads_on shape_at-renamed
 
     pub only_reads-renamed : only_reads (info_at (renamed f w) (f.to n)) ≡ only_reads (info_at w n)
     only_reads-renamed = ap gives_text shape_at-renamed
