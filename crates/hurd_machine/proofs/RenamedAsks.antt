@@ -1,5 +1,5 @@
 -- What servers answer of nodes with other names.
-use Rattle.std.proofs.Common.{◌≡◌, ℕ, Bool, true, false, not, is_some, if◌then◌else◌, List, Option, Some, None, Result, Ok, Err, refl, ap, ap₂, ◌∙◌}
+use Rattle.std.proofs.Common.{◌≡◌, ℕ, Bool, not, if◌then◌else◌, List, Option, Some, None, Result, Ok, Err, refl, ap, ◌∙◌}
 use Rattle.std.specs.Prelude.{nat_lt}
 use Rattle.std.specs.Option.{option_map}
 use Rattle.hurd_trans_iface.specs.Answers.{link_in, link_of, make_of, rename_of, rename_to, set_header_of, unlink_of}
@@ -9,7 +9,7 @@ use Rattle.hurd_trans_iface.specs.Meaning.{ServerKind, Tmpfs, Hello, Null, Zero,
 use Rattle.hurd_trans_iface.specs.Nodes.{linked}
 use Rattle.hurd_trans_iface.specs.TmpfsKind.{bytes_in, read_bytes}
 use Rattle.hurd_nodes.specs.Shown.{info_taken, made_by, readable_by, rename_by, unlink_by}
-use Rattle.hurd_machine.proofs.Common.{Body, Content, EEXIST, EISDIR, ENOENT, ENOSPC, ENOTDIR, EOVERFLOW, EROFS, EXDEV, EOPNOTSUPP, Errno, Header, Kind, Listing, Name, Node, Question, ServerInfo, World, are_kin, asked_at, asked_of, counts_for, edit_by, fitting, get, home_at, info_at, is_dir, is_made, is_taken, keeps_tree, link_by, links_at, makes_at, most_links, overfills, renames_at, sets_attrs_at, space_at, takes_options, writing}
+use Rattle.hurd_machine.proofs.Common.{Body, Content, EEXIST, EISDIR, ENOENT, ENOSPC, ENOTDIR, EOVERFLOW, EROFS, EXDEV, EOPNOTSUPP, Errno, Header, Kind, Listing, Name, Node, Question, ServerInfo, World, are_kin, asked_at, asked_of, counts_for, edit_by, fitting, get, home_at, info_at, is_dir, is_made, keeps_tree, link_by, links_at, makes_at, most_links, overfills, renames_at, sets_attrs_at, space_at, takes_options, writing}
 use Rattle.hurd_machine.specs.World.{count_in, readable_at, unlinks_at}
 use Rattle.hurd_machine.specs.Renamed.{Renaming, body_renamed, header_renamed, info_renamed, node_renamed, renamed}
 use Rattle.hurd_machine.proofs.RenamedNodes.{has_entry-renamed, is_taken-renamed, kin_at-renamed, node_at-renamed}
@@ -124,7 +124,7 @@ module _ (f : Renaming) where
   link_in-renamed space name kin d None = refl
   link_in-renamed space name kin d (Some x) =
       ap (λ (taken : Bool). if not kin then Err EXDEV else if is_dir x.header.kind then Err EISDIR else if taken then Err EEXIST
-        else if overfills space (counts_for x.header) (counts_for (linked x.header)) then Err ENOSPC else if nat_lt x.header.links most_links then Ok tt else Err EOVERFLOW) (has_entry-renamed f name d.body)
+      else if overfills space (counts_for x.header) (counts_for (linked x.header)) then Err ENOSPC else if nat_lt x.header.links most_links then Ok tt else Err EOVERFLOW) (has_entry-renamed f name d.body)
 
   link_of-renamed : (keeps : Bool) (space : Option ℕ) (name : List ℕ) (kin : Bool) (o p : Option Node)
       → link_of keeps space name kin (option_map (node_renamed f.to) o) (option_map (node_renamed f.to) p) ≡ link_of keeps space name kin o p

@@ -1,10 +1,9 @@
 -- What ports name and have open where things have other names.
-use Rattle.std.proofs.Common.{◌≡◌, ℕ, Bool, true, false, Option, Some, None, Result, Ok, Err, refl, sym, ap, ◌∙◌}
-use Rattle.std.specs.Option.{option_map}
-use Rattle.hurd_machine.proofs.Common.{EBADF, EDIED, Errno, Header, Io, IoRight, Name, Opened, World, asks, header_at, io_right_of, open_at, ports_of}
+use Rattle.std.proofs.Common.{◌≡◌, ℕ, Result, refl}
+use Rattle.hurd_machine.proofs.Common.{EBADF, EDIED, Errno, Header, IoRight, Name, World, asks, header_at, io_right_of, open_at, ports_of}
 use Rattle.hurd_machine.specs.declared.handle.Handle.{Handle}
 use Rattle.hurd_machine.specs.Handle.{Named, both_asks, handle_asks, port_asks}
-use Rattle.hurd_machine.specs.Plan.{first, given, on}
+use Rattle.hurd_machine.specs.Plan.{first, on}
 use Rattle.hurd_machine.specs.Renamed.{Renaming, header_renamed, io_renamed, open_renamed, renamed}
 use Rattle.hurd_machine.proofs.RenamedNodes.{header_at-renamed}
 use Rattle.hurd_machine.proofs.RenamedPlans.{answer_renamed, first-renamed, given-renamed, on-renamed}

@@ -1,5 +1,5 @@
 -- What a map with other names has, what it becomes by a change, and what its values come to in all.
-use Rattle.std.proofs.Common.{◌≡◌, ◌≢◌, ◌⊎◌, inl, inr, ℕ, ◌+◌, ◌&&◌, Bool, true, false, cond, List, [], ◌∷◌, Option, Some, None, map, refl, sym, ap, ◌∙◌, arith}
+use Rattle.std.proofs.Common.{◌≡◌, inl, inr, ℕ, ◌&&◌, Bool, true, false, cond, List, [], ◌∷◌, Option, Some, None, map, refl, sym, ap, ◌∙◌, arith}
 use Rattle.std.specs.Prelude.{T}
 use Rattle.std.specs.Option.{option_map}
 use Rattle.std.specs.List.{sum_by}
@@ -149,7 +149,7 @@ module _ (f : Renaming) where
           let rest = sum-renamed es (second_of_two (below_all name_cmp e.0 es) (is_sorted name_cmp es) h) in
           let more = total_insert V (fin.from_entries (map pair es)) (f.to e.0) (g e.1) in
           let none : fin.get (fin.from_entries (map pair es)) (f.to e.0) ≡ None =
-              fin.get-from_entries name_total (map pair es) (f.to e.0) ∙ find-renamed es e.0 ∙ ap (option_map g) (find-below e.0 es (first_of_two (below_all name_cmp e.0 es) (is_sorted name_cmp es) h)) in
+          fin.get-from_entries name_total (map pair es) (f.to e.0) ∙ find-renamed es e.0 ∙ ap (option_map g) (find-below e.0 es (first_of_two (below_all name_cmp e.0 es) (is_sorted name_cmp es) h)) in
           let zero_found : of_found V (fin.get (fin.from_entries (map pair es)) (f.to e.0)) ≡ 0 = ap (of_found V) none in
           let one = same e.1 in
           let all = sum_by-cons W e.1 (map (λ (d : Name × X). d.1) es) in

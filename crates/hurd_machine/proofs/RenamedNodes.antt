@@ -1,10 +1,10 @@
 -- What is read of nodes and their sites where things have other names.
-use Rattle.std.proofs.Common.{◌≡◌, ◌||◌, ◌&&◌, ℕ, Bool, true, false, cond, is_some, List, [], ◌∷◌, Option, Some, None, map, refl, sym, ap, ap₂, ◌∙◌}
+use Rattle.std.proofs.Common.{◌≡◌, ◌||◌, ℕ, Bool, true, false, cond, is_some, List, [], ◌∷◌, Option, Some, None, map, refl, sym, ap, ap₂, ◌∙◌}
 use Rattle.std.specs.Prelude.{nat_lt, if◌then◌else◌, Ok, option_and_then}
 use Rattle.std.specs.Option.{option_map}
 use Rattle.std.specs.Str.{bytes_eq}
 use Rattle.hurd_trans_iface.specs.Nodes.{Entry, content_in}
-use Rattle.hurd_machine.proofs.Common.{Body, Content, Header, Listing, Name, NameMap, Node, Site, World, active_at, are_kin, body_at, boot_name, entry_in, entry_of, get, header_at, home_at, home_in, is_dir, is_empty_dir, is_entered_at, is_home, is_listed, is_of, is_one, is_taken, list_any, lists, lists_at, names_of, node_at, passive_of, same_name, site_at, words_at, words_in}
+use Rattle.hurd_machine.proofs.Common.{Body, Content, Listing, Name, NameMap, Node, Site, World, active_at, are_kin, body_at, boot_name, entry_in, entry_of, get, header_at, home_at, home_in, is_dir, is_empty_dir, is_entered_at, is_home, is_listed, is_of, is_one, is_taken, list_any, lists, lists_at, names_of, node_at, passive_of, same_name, site_at, words_at, words_in}
 use Rattle.hurd_machine.specs.Renamed.{Renaming, body_renamed, entry_renamed, header_renamed, map_renamed, node_renamed, renamed, site_renamed}
 use Rattle.hurd_machine.proofs.RenamedMaps.{get-renamed, same_name-renamed}
 
