@@ -1,6 +1,6 @@
 -- What ports name and have open where things have other names.
 use Rattle.std.proofs.Common.{◌≡◌, ℕ, Result, refl}
-use Rattle.hurd_machine.proofs.Common.{EBADF, EDIED, Errno, Header, IoRight, Name, World, asks, header_at, io_right_of, open_at, ports_of}
+use Rattle.hurd_machine.proofs.Common.{EDIED, Errno, Header, IoRight, Name, World, header_at, io_right_of, ports_of}
 use Rattle.hurd_machine.specs.declared.handle.Handle.{Handle}
 use Rattle.hurd_machine.specs.Handle.{Named, both_asks, handle_asks, port_asks}
 use Rattle.hurd_machine.specs.Plan.{first, on}
@@ -27,12 +27,12 @@ module _ (f : Renaming) where
     -- what follows from the header of a node
     pub on_header-renamed : {C D : Type 0} (h : C → D) (e : Errno) (n : Name) (k : Header → Result C Errno) (l : Header → Result D Errno) → ((x : Header) → l (header_renamed f.to x) ≡ answer_renamed h (k x))
         → on e (header_at (renamed f w) (f.to n)) l ≡ answer_renamed h (on e (header_at w n) k)
-    on_header-renamed h e n k l alike = on-renamed (header_renamed f.to) h k l alike e (header_at w n) (header_at (renamed f w) (f.to n)) (header_at-renamed f w n)
+    on_header-renamed h e n k l alike = on-renamed (header_renamed f.to) h e (header_at w n) k l (header_at-renamed f w n) alike
 
     -- and from the right that a port is to use a node
     pub on_right-renamed : {C D : Type 0} (h : C → D) (t p : ℕ) (k : IoRight → Result C Errno) (l : IoRight → Result D Errno) → ((r : IoRight) → l (io_renamed f.to r) ≡ answer_renamed h (k r))
         → first (io_right_of (ports_of (renamed f w)) t p) l ≡ answer_renamed h (first (io_right_of (ports_of w) t p) k)
-    on_right-renamed h t p k l alike = first-renamed (io_renamed f.to) h k l alike (io_right_of (ports_of w) t p) (io_right_of (ports_of (renamed f w)) t p) (io_right_of-renamed f w t p)
+    on_right-renamed h t p k l alike = first-renamed (io_renamed f.to) h _ k l (io_right_of-renamed f w t p) alike
 
     pub port_asks-renamed : (t p : ℕ) → port_asks (renamed f w) t p ≡ answer_renamed named_renamed (port_asks w t p)
     port_asks-renamed t p = on_right-renamed named_renamed t p _ _ (λ r. on_header-renamed named_renamed EDIED r.node _ _ (λ h. refl))
@@ -44,6 +44,5 @@ module _ (f : Renaming) where
 
     pub handle_asks-renamed : (t p mode : ℕ) → handle_asks (renamed f w) t p mode ≡ answer_renamed handle_renamed (handle_asks w t p mode)
     handle_asks-renamed t p mode = on_right-renamed handle_renamed t p _ _ (λ r.
-        on-renamed (open_renamed f.to) handle_renamed _ _ (λ o.
-        given-renamed handle_renamed _ _ (on_header-renamed handle_renamed EDIED r.node _ _ (λ h. refl)) EBADF (asks o.modes mode) (asks o.modes mode) refl)
-        EBADF (open_at w r.open_name) (open_at (renamed f w) (f.to r.open_name)) (open_at-renamed f w r.open_name))
+        on-renamed (open_renamed f.to) handle_renamed _ _ _ _ (open_at-renamed f w r.open_name) (λ o.
+        given-renamed handle_renamed _ _ refl (on_header-renamed handle_renamed EDIED r.node _ _ (λ h. refl))))

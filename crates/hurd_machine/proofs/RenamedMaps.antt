@@ -55,12 +55,12 @@ module _ (f : Renaming) where
         go true t rest here = (e.0, sym (equal_if_tied q (f.to e.0) t))
         go false t rest there = rest there
 
-    -- nothing stands but at other names
+    -- what stands there stands at one of the other names
     pub origin : (m : NameMap X) (q : Name) (y : Y) → fin.get (map_renamed f.to g m) q ≡ Some y → (n : Name) × (f.to n ≡ q)
     unfolding map_renamed
     origin m q y is = find-origin (fin.entries m) q y (sym (get-keyed (λ (e : Name × X). f.to e.0) (λ (e : Name × X). g e.1) (fin.entries m) q) ∙ is)
 
-    -- a map is the other with other names, if it answers so, and has nothing at any more names
+    -- a map that answers so, and has nothing at any more names, is the one with other names
     pub is_renamed : (m : NameMap X) (k : NameMap Y) → ((n : Name) → fin.get k (f.to n) ≡ option_map g (fin.get m n)) → ((q : Name) (y : Y) → fin.get k q ≡ Some y → (n : Name) × (f.to n ≡ q))
         → map_renamed f.to g m ≡ k
     is_renamed m k alike named = same_map_by _ _ (λ q. go q (fin.get (map_renamed f.to g m) q) (fin.get k q) refl refl)

@@ -1,5 +1,5 @@
 -- Answers where things have other names: the same refusals, and what was found with other names.
-use Rattle.std.proofs.Common.{◌≡◌, Bool, true, false, [], Option, Some, None, Result, Ok, Err, refl, ap, ◌∙◌}
+use Rattle.std.proofs.Common.{◌≡◌, Bool, true, false, Option, Some, None, Result, Ok, Err, refl, ap, ◌∙◌}
 use Rattle.std.specs.Option.{option_map}
 use Rattle.hurd_machine.proofs.Common.{Errno, Meaning, Reply, or_refuse}
 use Rattle.hurd_machine.specs.Plan.{Plan, answered, first, given, handing_back, looks, on, returning}
@@ -16,93 +16,93 @@ module _ {A B : Type 0} (g : A → B) where
 
 -- what follows from things and answers with other names
 
-module _ {A B : Type 0} (g : A → B) {C D : Type 0} (h : C → D) (k : A → Result C Errno) (l : B → Result D Errno) (alike : (x : A) → l (g x) ≡ answer_renamed h (k x)) where
-  on_mapped : (e : Errno) (o : Option A) → on e (option_map g o) l ≡ answer_renamed h (on e o k)
+module _ {A B : Type 0} (g : A → B) {C D : Type 0} (h : C → D) where
+  pub on-renamed : {p : Option B} (e : Errno) (o : Option A) (k : A → Result C Errno) (l : B → Result D Errno) → p ≡ option_map g o → ((x : A) → l (g x) ≡ answer_renamed h (k x))
+      → on e p l ≡ answer_renamed h (on e o k)
   unfolding on
-  on_mapped e None = refl
-  on_mapped e (Some x) = alike x
+  on-renamed e o k l is alike = ap (λ q. on e q l) is ∙ go o
+    where
+      go : (o : Option A) → on e (option_map g o) l ≡ answer_renamed h (on e o k)
+      go None = refl
+      go (Some x) = alike x
 
-  pub on-renamed : (e : Errno) (o : Option A) (p : Option B) → p ≡ option_map g o → on e p l ≡ answer_renamed h (on e o k)
-  on-renamed e o p is = ap (λ q. on e q l) is ∙ on_mapped e o
-
-  first_mapped : (r : Result A Errno) → first (answer_renamed g r) l ≡ answer_renamed h (first r k)
+  pub first-renamed : {s : Result B Errno} (r : Result A Errno) (k : A → Result C Errno) (l : B → Result D Errno) → s ≡ answer_renamed g r → ((x : A) → l (g x) ≡ answer_renamed h (k x))
+      → first s l ≡ answer_renamed h (first r k)
   unfolding first
-  first_mapped (Ok x) = alike x
-  first_mapped (Err e) = refl
-
-  pub first-renamed : (r : Result A Errno) (s : Result B Errno) → s ≡ answer_renamed g r → first s l ≡ answer_renamed h (first r k)
-  first-renamed r s is = ap (λ q. first q l) is ∙ first_mapped r
+  first-renamed r k l is alike = ap (λ q. first q l) is ∙ go r
+    where
+      go : (r : Result A Errno) → first (answer_renamed g r) l ≡ answer_renamed h (first r k)
+      go (Ok x) = alike x
+      go (Err e) = refl
 
 -- the same where that is told without names
-module _ {A B : Type 0} (g : A → B) {C : Type 0} (k : A → Result C Errno) (l : B → Result C Errno) (alike : (x : A) → l (g x) ≡ k x) where
-  on_told : (e : Errno) (o : Option A) → on e (option_map g o) l ≡ on e o k
+module _ {A B : Type 0} (g : A → B) {C : Type 0} where
+  pub on-told : {p : Option B} (e : Errno) (o : Option A) (k : A → Result C Errno) (l : B → Result C Errno) → p ≡ option_map g o → ((x : A) → l (g x) ≡ k x) → on e p l ≡ on e o k
   unfolding on
-  on_told e None = refl
-  on_told e (Some x) = alike x
+  on-told e o k l is alike = ap (λ q. on e q l) is ∙ go o
+    where
+      go : (o : Option A) → on e (option_map g o) l ≡ on e o k
+      go None = refl
+      go (Some x) = alike x
 
-  pub on-told : (e : Errno) (o : Option A) (p : Option B) → p ≡ option_map g o → on e p l ≡ on e o k
-  on-told e o p is = ap (λ q. on e q l) is ∙ on_told e o
-
-  first_told : (r : Result A Errno) → first (answer_renamed g r) l ≡ first r k
+  pub first-told : {s : Result B Errno} (r : Result A Errno) (k : A → Result C Errno) (l : B → Result C Errno) → s ≡ answer_renamed g r → ((x : A) → l (g x) ≡ k x) → first s l ≡ first r k
   unfolding first
-  first_told (Ok x) = alike x
-  first_told (Err e) = refl
-
-  pub first-told : (r : Result A Errno) (s : Result B Errno) → s ≡ answer_renamed g r → first s l ≡ first r k
-  first-told r s is = ap (λ q. first q l) is ∙ first_told r
+  first-told r k l is alike = ap (λ q. first q l) is ∙ go r
+    where
+      go : (r : Result A Errno) → first (answer_renamed g r) l ≡ first r k
+      go (Ok x) = alike x
+      go (Err e) = refl
 
 -- where what it follows from has no names
-module _ {A C D : Type 0} (h : C → D) (k : A → Result C Errno) (l : A → Result D Errno) (alike : (x : A) → l x ≡ answer_renamed h (k x)) where
-  on_given : (e : Errno) (o : Option A) → on e o l ≡ answer_renamed h (on e o k)
+module _ {A C D : Type 0} (h : C → D) where
+  pub on-given : {o p : Option A} (e : Errno) (k : A → Result C Errno) (l : A → Result D Errno) → p ≡ o → ((x : A) → l x ≡ answer_renamed h (k x)) → on e p l ≡ answer_renamed h (on e o k)
   unfolding on
-  on_given e None = refl
-  on_given e (Some x) = alike x
+  on-given {o = o} e k l is alike = ap (λ q. on e q l) is ∙ go o
+    where
+      go : (o : Option A) → on e o l ≡ answer_renamed h (on e o k)
+      go None = refl
+      go (Some x) = alike x
 
-  pub on-given : (e : Errno) (o p : Option A) → p ≡ o → on e p l ≡ answer_renamed h (on e o k)
-  on-given e o p is = ap (λ q. on e q l) is ∙ on_given e o
-
-  first_given : (r : Result A Errno) → first r l ≡ answer_renamed h (first r k)
+  pub first-given : {r s : Result A Errno} (k : A → Result C Errno) (l : A → Result D Errno) → s ≡ r → ((x : A) → l x ≡ answer_renamed h (k x)) → first s l ≡ answer_renamed h (first r k)
   unfolding first
-  first_given (Ok x) = alike x
-  first_given (Err e) = refl
-
-  pub first-given : (r s : Result A Errno) → s ≡ r → first s l ≡ answer_renamed h (first r k)
-  first-given r s is = ap (λ q. first q l) is ∙ first_given r
+  first-given {r = r} k l is alike = ap (λ q. first q l) is ∙ go r
+    where
+      go : (r : Result A Errno) → first r l ≡ answer_renamed h (first r k)
+      go (Ok x) = alike x
+      go (Err e) = refl
 
 -- where a test holds of both alike
-module _ {C D : Type 0} (h : C → D) (k : Result C Errno) (l : Result D Errno) (alike : l ≡ answer_renamed h k) where
-  given_same : (e : Errno) (b : Bool) → given e b l ≡ answer_renamed h (given e b k)
+module _ {C D : Type 0} (h : C → D) where
+  pub given-renamed : {b c : Bool} {l : Result D Errno} (e : Errno) (k : Result C Errno) → c ≡ b → l ≡ answer_renamed h k → given e c l ≡ answer_renamed h (given e b k)
   unfolding given
-  given_same e true = alike
-  given_same e false = refl
-
-  pub given-renamed : (e : Errno) (b c : Bool) → c ≡ b → given e c l ≡ answer_renamed h (given e b k)
-  given-renamed e b c is = ap (λ d. given e d l) is ∙ given_same e b
+  given-renamed {b = b} {l = l} e k is alike = ap (λ d. given e d l) is ∙ go b
+    where
+      go : (b : Bool) → given e b l ≡ answer_renamed h (given e b k)
+      go true = alike
+      go false = refl
 
 -- replies of plans: where those that follow from the answers are alike
 module _ {A B : Type 0} (g : A → B) where
-  module _ (k : A → Plan) (l : B → Plan) (alike : (x : A) → (l (g x)).reply ≡ (k x).reply) where
-    answered_mapped : (r : Result A Errno) → (answered (answer_renamed g r) l).reply ≡ (answered r k).reply
-    unfolding answered
-    answered_mapped (Ok x) = alike x
-    answered_mapped (Err e) = refl
-
-    pub answered-renamed : (r : Result A Errno) (s : Result B Errno) → s ≡ answer_renamed g r → (answered s l).reply ≡ (answered r k).reply
-    answered-renamed r s is = ap (λ q. (answered q l).reply) is ∙ answered_mapped r
+  pub answered-renamed : {s : Result B Errno} (r : Result A Errno) (k : A → Plan) (l : B → Plan) → s ≡ answer_renamed g r → ((x : A) → (l (g x)).reply ≡ (k x).reply) → (answered s l).reply ≡ (answered r k).reply
+  unfolding answered
+  answered-renamed r k l is alike = ap (λ q. (answered q l).reply) is ∙ go r
+    where
+      go : (r : Result A Errno) → (answered (answer_renamed g r) l).reply ≡ (answered r k).reply
+      go (Ok x) = alike x
+      go (Err e) = refl
 
   -- of a call that only looks
-  pub looks-renamed : (k : A → Reply) (l : B → Reply) → ((x : A) → l (g x) ≡ k x) → (r : Result A Errno) (s : Result B Errno) → s ≡ answer_renamed g r → (looks s l).reply ≡ (looks r k).reply
-  looks-renamed k l alike = answered-renamed (λ x. record { reply = k x; changes = [] }) (λ x. record { reply = l x; changes = [] }) alike
+  pub looks-renamed : {s : Result B Errno} (r : Result A Errno) (k : A → Reply) (l : B → Reply) → s ≡ answer_renamed g r → ((x : A) → l (g x) ≡ k x) → (looks s l).reply ≡ (looks r k).reply
+  looks-renamed r k l is alike = answered-renamed r _ _ is alike
 
 -- the same where the answer has no names
-module _ {A : Type 0} (k l : A → Plan) (alike : (x : A) → (l x).reply ≡ (k x).reply) where
-  answered_same : (r : Result A Errno) → (answered r l).reply ≡ (answered r k).reply
-  unfolding answered
-  answered_same (Ok x) = alike x
-  answered_same (Err e) = refl
-
-  pub answered-given : (r s : Result A Errno) → s ≡ r → (answered s l).reply ≡ (answered r k).reply
-  answered-given r s is = ap (λ q. (answered q l).reply) is ∙ answered_same r
+pub answered-given : {A : Type 0} {r s : Result A Errno} (k l : A → Plan) → s ≡ r → ((x : A) → (l x).reply ≡ (k x).reply) → (answered s l).reply ≡ (answered r k).reply
+unfolding answered
+answered-given {A} {r = r} k l is alike = ap (λ q. (answered q l).reply) is ∙ go r
+  where
+    go : (r : Result A Errno) → (answered r l).reply ≡ (answered r k).reply
+    go (Ok x) = alike x
+    go (Err e) = refl
 
 -- with the box that was brought
 pub returning-renamed : (o : Option Meaning) (P Q : Plan) → Q.reply ≡ P.reply → (returning o Q).reply ≡ (returning o P).reply

@@ -17,11 +17,14 @@ use Rattle.hurd_ports.specs.declared.table.Port.{Port}
 use Rattle.hurd_ports.specs.Tables.{Task}
 use Rattle.hurd_machine.specs.World.{World}
 
--- other names of things: of different things different ones, of the boot server and its root the same; and how many more things each task has made
+-- other names of things
 pub record Renaming : Type 0 where
   pub to : Name → Name
+  -- different things have different ones
   pub apart : (n m : Name) → to n ≡ to m → n ≡ m
+  -- the boot server and its root, which have one name, keep it
   pub boot : to boot_name ≡ boot_name
+  -- how many more things each task has made
   pub more : ℕ → ℕ
 
 -- the map with other names, and a function at each value
