@@ -55,3 +55,10 @@ pub mod Renames
 pub mod Servers
 pub mod Going
 pub mod Pending
+pub mod RenamedMaps
+pub mod RenamedNodes
+pub mod RenamedServers
+pub mod RenamedPlans
+pub mod RenamedAsks
+pub mod RenamedTasks
+pub mod RenamedHandles

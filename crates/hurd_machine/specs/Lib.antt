@@ -6,3 +6,4 @@ pub mod Handle
 pub mod Sight
 pub mod Touched
 pub mod Sound
+pub mod Renamed

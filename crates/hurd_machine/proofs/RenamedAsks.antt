@@ -1,0 +1,212 @@
+-- What servers answer of nodes with other names.
+use Rattle.std.proofs.Common.{◌≡◌, ℕ, Bool, not, if◌then◌else◌, List, Option, Some, None, Result, Ok, Err, refl, ap, ◌∙◌}
+use Rattle.std.specs.Prelude.{nat_lt}
+use Rattle.std.specs.Option.{option_map}
+use Rattle.hurd_trans_iface.specs.Answers.{link_in, link_of, make_of, rename_of, rename_to, set_header_of, unlink_of}
+use Rattle.hurd_trans_iface.specs.Behaviour.{Effect, effect_on, reading, resizing, size_left}
+use Rattle.hurd_trans_iface.specs.FifoKind.{fifo_read, fifo_write}
+use Rattle.hurd_trans_iface.specs.Meaning.{ServerKind, Tmpfs, Hello, Null, Zero, Symlink, Firmlink, Union, Magic, Drip, Fifo, behaviour_of}
+use Rattle.hurd_trans_iface.specs.Nodes.{linked}
+use Rattle.hurd_trans_iface.specs.TmpfsKind.{bytes_in, read_bytes}
+use Rattle.hurd_nodes.specs.Shown.{info_taken, made_by, readable_by, rename_by, unlink_by}
+use Rattle.hurd_machine.proofs.Common.{Body, Content, EEXIST, EISDIR, ENOENT, ENOSPC, ENOTDIR, EOVERFLOW, EROFS, EXDEV, EOPNOTSUPP, Errno, Header, Kind, Listing, Name, Node, Question, ServerInfo, World, are_kin, asked_at, asked_of, counts_for, edit_by, fitting, get, home_at, info_at, is_dir, is_made, keeps_tree, link_by, links_at, makes_at, most_links, overfills, renames_at, sets_attrs_at, space_at, takes_options, writing}
+use Rattle.hurd_machine.specs.World.{count_in, readable_at, unlinks_at}
+use Rattle.hurd_machine.specs.Renamed.{Renaming, body_renamed, header_renamed, info_renamed, node_renamed, renamed}
+use Rattle.hurd_machine.proofs.RenamedNodes.{has_entry-renamed, is_taken-renamed, kin_at-renamed, node_at-renamed}
+use Rattle.hurd_machine.proofs.RenamedPlans.{answer_renamed}
+use Rattle.hurd_machine.proofs.RenamedServers.{info_at-renamed, space_at-renamed}
+
+module _ (f : Renaming) where
+  -- questions
+
+  -- the answer doesn't go by names that a node has
+  abbrev pub IsNameless : {T : Type 0} → Question T → Type 0
+  IsNameless q = (k : ServerKind) (text : List ℕ) (x : Node) → q (behaviour_of k) text (node_renamed f.to x) ≡ q (behaviour_of k) text x
+
+  read_bytes-renamed : (at amount : ℕ) (b : Body) → read_bytes at amount (body_renamed f.to b) ≡ read_bytes at amount b
+  read_bytes-renamed at amount (Content bs) = refl
+  read_bytes-renamed at amount (Listing es) = refl
+
+  bytes_in-renamed : (b : Body) → bytes_in (body_renamed f.to b) ≡ bytes_in b
+  bytes_in-renamed (Content bs) = refl
+  bytes_in-renamed (Listing es) = refl
+
+  fifo_read-renamed : (writers amount : ℕ) (b : Body) → fifo_read writers (body_renamed f.to b) amount ≡ fifo_read writers b amount
+  fifo_read-renamed writers amount (Content bs) = refl
+  fifo_read-renamed writers amount (Listing es) = refl
+
+  fifo_write-renamed : (readers : ℕ) (bs : List ℕ) (b : Body) → fifo_write readers (body_renamed f.to b) bs ≡ fifo_write readers b bs
+  fifo_write-renamed readers bs (Content old) = refl
+  fifo_write-renamed readers bs (Listing es) = refl
+
+  pub reading-renamed : (at amount writers : ℕ) → IsNameless (reading at amount writers)
+  reading-renamed at amount writers Tmpfs text x = read_bytes-renamed at amount x.body
+  reading-renamed at amount writers Hello text x = refl
+  reading-renamed at amount writers Null text x = refl
+  reading-renamed at amount writers Zero text x = refl
+  reading-renamed at amount writers Symlink text x = refl
+  reading-renamed at amount writers Firmlink text x = refl
+  reading-renamed at amount writers Union text x = refl
+  reading-renamed at amount writers Magic text x = refl
+  reading-renamed at amount writers Drip text x = refl
+  reading-renamed at amount writers Fifo text x = fifo_read-renamed writers amount x.body
+
+  pub writing-renamed : (at : ℕ) (bs : List ℕ) (readers : ℕ) → IsNameless (writing at bs readers)
+  writing-renamed at bs readers Tmpfs text x = refl
+  writing-renamed at bs readers Hello text x = refl
+  writing-renamed at bs readers Null text x = refl
+  writing-renamed at bs readers Zero text x = refl
+  writing-renamed at bs readers Symlink text x = refl
+  writing-renamed at bs readers Firmlink text x = refl
+  writing-renamed at bs readers Union text x = refl
+  writing-renamed at bs readers Magic text x = refl
+  writing-renamed at bs readers Drip text x = refl
+  writing-renamed at bs readers Fifo text x = fifo_write-renamed readers bs x.body
+
+  pub resizing-renamed : (size : ℕ) → IsNameless (resizing size)
+  resizing-renamed size Tmpfs text x = refl
+  resizing-renamed size Hello text x = refl
+  resizing-renamed size Null text x = refl
+  resizing-renamed size Zero text x = refl
+  resizing-renamed size Symlink text x = refl
+  resizing-renamed size Firmlink text x = refl
+  resizing-renamed size Union text x = refl
+  resizing-renamed size Magic text x = refl
+  resizing-renamed size Drip text x = refl
+  resizing-renamed size Fifo text x = refl
+
+  readable-renamed : (k : ServerKind) (text : List ℕ) (x : Node) (at : ℕ) → (behaviour_of k).readable text (node_renamed f.to x) at ≡ (behaviour_of k).readable text x at
+  readable-renamed Tmpfs text x at = refl
+  readable-renamed Hello text x at = refl
+  readable-renamed Null text x at = refl
+  readable-renamed Zero text x at = refl
+  readable-renamed Symlink text x at = refl
+  readable-renamed Firmlink text x at = refl
+  readable-renamed Union text x at = refl
+  readable-renamed Magic text x at = refl
+  readable-renamed Drip text x at = refl
+  readable-renamed Fifo text x at = bytes_in-renamed x.body
+
+  -- what a node counts for has no names in it
+
+  counts_left : (o : Option ℕ) (h : Header) → counts_for (size_left o (header_renamed f.to h)) ≡ counts_for (size_left o h)
+  counts_left None h = refl
+  counts_left (Some k) h = refl
+
+  fitting-renamed : {T : Type 0} (space : Option ℕ) (h : Header) (e : Effect T) → fitting space (header_renamed f.to h) e ≡ fitting space h e
+  fitting-renamed None h e = refl
+  fitting-renamed (Some space) h (Err e) = refl
+  fitting-renamed (Some space) h (Ok d) = ap (λ k. if overfills (Some space) (counts_for h) k then Err ENOSPC else Ok d) (counts_left d.size h)
+
+  effect_on-renamed : {T : Type 0} (q : Question T) → IsNameless q → (k : ServerKind) (text : List ℕ) (space : Option ℕ) (o : Option Node)
+      → effect_on q (behaviour_of k) text space (option_map (node_renamed f.to) o) ≡ effect_on q (behaviour_of k) text space o
+  effect_on-renamed q nameless k text space None = refl
+  effect_on-renamed q nameless k text space (Some x) = fitting-renamed space x.header (q (behaviour_of k) text (node_renamed f.to x)) ∙ ap (fitting space x.header) (nameless k text x)
+
+  asked_of-renamed : {T : Type 0} (q : Question T) → IsNameless q → (i : Option ServerInfo) (space : Option ℕ) (o : Option Node)
+      → asked_of q (option_map (info_renamed f.to) i) space (option_map (node_renamed f.to) o) ≡ asked_of q i space o
+  asked_of-renamed q nameless None space o = refl
+  asked_of-renamed q nameless (Some i) space o = effect_on-renamed q nameless i.kind i.text space o
+
+  readable_by-renamed : (at : ℕ) (i : Option ServerInfo) (o : Option Node) → readable_by at (option_map (info_renamed f.to) i) (option_map (node_renamed f.to) o) ≡ readable_by at i o
+  readable_by-renamed at None o = refl
+  readable_by-renamed at (Some i) None = refl
+  readable_by-renamed at (Some i) (Some x) = ap Some (readable-renamed i.kind i.text x at)
+
+  -- what may be done in directories
+
+  make_of-renamed : (keeps : Bool) (entry : Option (List ℕ)) (kind : Kind) (o : Option Node) → make_of keeps entry kind (option_map (node_renamed f.to) o) ≡ make_of keeps entry kind o
+  make_of-renamed keeps entry kind None = refl
+  make_of-renamed keeps entry kind (Some d) =
+      ap (λ (taken : Bool). if not (is_dir d.header.kind) then Err ENOTDIR else if not keeps then Err EROFS else if taken then Err EEXIST else if is_made kind then Ok tt else Err EOPNOTSUPP) (is_taken-renamed f entry d.body)
+
+  link_in-renamed : (space : Option ℕ) (name : List ℕ) (kin : Bool) (d : Node) (o : Option Node) → link_in space name kin (node_renamed f.to d) (option_map (node_renamed f.to) o) ≡ link_in space name kin d o
+  link_in-renamed space name kin d None = refl
+  link_in-renamed space name kin d (Some x) =
+      ap (λ (taken : Bool). if not kin then Err EXDEV else if is_dir x.header.kind then Err EISDIR else if taken then Err EEXIST
+      else if overfills space (counts_for x.header) (counts_for (linked x.header)) then Err ENOSPC else if nat_lt x.header.links most_links then Ok tt else Err EOVERFLOW) (has_entry-renamed f name d.body)
+
+  link_of-renamed : (keeps : Bool) (space : Option ℕ) (name : List ℕ) (kin : Bool) (o p : Option Node)
+      → link_of keeps space name kin (option_map (node_renamed f.to) o) (option_map (node_renamed f.to) p) ≡ link_of keeps space name kin o p
+  link_of-renamed keeps space name kin None p = refl
+  link_of-renamed keeps space name kin (Some d) p = ap (λ r. if not (is_dir d.header.kind) then Err ENOTDIR else if not keeps then Err EROFS else r) (link_in-renamed space name kin d p)
+
+  unlink_of-renamed : (keeps : Bool) (name : List ℕ) (o : Option Node) → unlink_of keeps name (option_map (node_renamed f.to) o) ≡ unlink_of keeps name o
+  unlink_of-renamed keeps name None = refl
+  unlink_of-renamed keeps name (Some d) =
+      ap (λ (there : Bool). if not (is_dir d.header.kind) then Err ENOTDIR else if not keeps then Err EROFS else if there then Ok tt else Err ENOENT) (has_entry-renamed f name d.body)
+
+  rename_to-renamed : (name : List ℕ) (d : Node) (o : Option Node) → rename_to name (node_renamed f.to d) (option_map (node_renamed f.to) o) ≡ rename_to name d o
+  rename_to-renamed name d None = refl
+  rename_to-renamed name d (Some t) = ap (λ (there : Bool). if not (is_dir t.header.kind) then Err ENOTDIR else if there then Ok tt else Err ENOENT) (has_entry-renamed f name d.body)
+
+  rename_of-renamed : (keeps : Bool) (name : List ℕ) (kin : Bool) (o p : Option Node) → rename_of keeps name kin (option_map (node_renamed f.to) o) (option_map (node_renamed f.to) p) ≡ rename_of keeps name kin o p
+  rename_of-renamed keeps name kin None p = refl
+  rename_of-renamed keeps name kin (Some d) p = ap (λ r. if not (is_dir d.header.kind) then Err ENOTDIR else if not keeps then Err EROFS else if kin then r else Err EXDEV) (rename_to-renamed name d p)
+
+  set_header_of-renamed : (keeps : Bool) (o : Option Node) → set_header_of keeps (option_map (node_renamed f.to) o) ≡ set_header_of keeps o
+  set_header_of-renamed keeps None = refl
+  set_header_of-renamed keeps (Some x) = refl
+
+  -- by what is known of the server
+
+  made_by-renamed : (entry : Option (List ℕ)) (kind : Kind) (i : Option ServerInfo) (o : Option Node) → made_by entry kind (option_map (info_renamed f.to) i) (option_map (node_renamed f.to) o) ≡ made_by entry kind i o
+  made_by-renamed entry kind None o = refl
+  made_by-renamed entry kind (Some i) o = make_of-renamed (keeps_tree i.kind) entry kind o
+
+  link_by-renamed : (name : List ℕ) (kin : Bool) (i : Option ServerInfo) (space : Option ℕ) (o p : Option Node)
+      → link_by name kin (option_map (info_renamed f.to) i) space (option_map (node_renamed f.to) o) (option_map (node_renamed f.to) p) ≡ link_by name kin i space o p
+  link_by-renamed name kin None space o p = refl
+  link_by-renamed name kin (Some i) space o p = link_of-renamed (keeps_tree i.kind) space name kin o p
+
+  unlink_by-renamed : (name : List ℕ) (i : Option ServerInfo) (o : Option Node) → unlink_by name (option_map (info_renamed f.to) i) (option_map (node_renamed f.to) o) ≡ unlink_by name i o
+  unlink_by-renamed name None o = refl
+  unlink_by-renamed name (Some i) o = unlink_of-renamed (keeps_tree i.kind) name o
+
+  rename_by-renamed : (name : List ℕ) (kin : Bool) (i : Option ServerInfo) (o p : Option Node)
+      → rename_by name kin (option_map (info_renamed f.to) i) (option_map (node_renamed f.to) o) (option_map (node_renamed f.to) p) ≡ rename_by name kin i o p
+  rename_by-renamed name kin None o p = refl
+  rename_by-renamed name kin (Some i) o p = rename_of-renamed (keeps_tree i.kind) name kin o p
+
+  edit_by-renamed : (i : Option ServerInfo) (o : Option Node) → edit_by (option_map (info_renamed f.to) i) (option_map (node_renamed f.to) o) ≡ edit_by i o
+  edit_by-renamed None o = refl
+  edit_by-renamed (Some i) o = set_header_of-renamed (keeps_tree i.kind) o
+
+  info_taken-renamed : (i : ServerInfo) (r : Result (Option (List ℕ)) Errno)
+      → info_taken (info_renamed f.to i) r ≡ answer_renamed (λ (a : ServerInfo × Option (List ℕ)). (info_renamed f.to a.0, a.1)) (info_taken i r)
+  info_taken-renamed i (Ok text) = refl
+  info_taken-renamed i (Err e) = refl
+
+  -- the server that options were given, with the text that it takes
+  pub takes_options-renamed : (ws : List (List ℕ)) (o : Option ServerInfo)
+      → takes_options ws (option_map (info_renamed f.to) o) ≡ answer_renamed (λ (a : ServerInfo × Option (List ℕ)). (info_renamed f.to a.0, a.1)) (takes_options ws o)
+  takes_options-renamed ws None = refl
+  takes_options-renamed ws (Some i) = info_taken-renamed i ((behaviour_of i.kind).set_options ws)
+
+  -- in the world
+
+  module _ (w : World) where
+    pub asked_at-renamed : {T : Type 0} (q : Question T) → IsNameless q → (n : Name) → asked_at q (f.to n) (renamed f w) ≡ asked_at q n w
+    asked_at-renamed q nameless n = rw (info_at-renamed f w n, space_at-renamed f w n, node_at-renamed f w n) (asked_of-renamed q nameless (info_at w n) (space_at w n) (get w.nodes n))
+
+    pub readable_at-renamed : (n : Name) (at : ℕ) → readable_at (renamed f w) (f.to n) at ≡ readable_at w n at
+    readable_at-renamed n at = rw (info_at-renamed f w n, node_at-renamed f w n) (ap count_in (readable_by-renamed at (info_at w n) (get w.nodes n)))
+
+    pub makes_at-renamed : (d : Name) (entry : Option (List ℕ)) (kind : Kind) → makes_at (renamed f w) (f.to d) entry kind ≡ makes_at w d entry kind
+    makes_at-renamed d entry kind = rw (info_at-renamed f w d, node_at-renamed f w d) (made_by-renamed entry kind (info_at w d) (get w.nodes d))
+
+    pub links_at-renamed : (d : Name) (name : List ℕ) (n : Name) → links_at (renamed f w) (f.to d) name (f.to n) ≡ links_at w d name n
+    links_at-renamed d name n =
+        rw (info_at-renamed f w d, space_at-renamed f w d, node_at-renamed f w d, node_at-renamed f w n, kin_at-renamed f w d n)
+        (link_by-renamed name (are_kin (home_at w d) (home_at w n)) (info_at w d) (space_at w d) (get w.nodes d) (get w.nodes n))
+
+    pub unlinks_at-renamed : (d : Name) (name : List ℕ) → unlinks_at (renamed f w) (f.to d) name ≡ unlinks_at w d name
+    unlinks_at-renamed d name = rw (info_at-renamed f w d, node_at-renamed f w d) (unlink_by-renamed name (info_at w d) (get w.nodes d))
+
+    pub renames_at-renamed : (d : Name) (name : List ℕ) (e : Name) → renames_at (renamed f w) (f.to d) name (f.to e) ≡ renames_at w d name e
+    renames_at-renamed d name e =
+        rw (info_at-renamed f w d, node_at-renamed f w d, node_at-renamed f w e, kin_at-renamed f w d e)
+        (rename_by-renamed name (are_kin (home_at w d) (home_at w e)) (info_at w d) (get w.nodes d) (get w.nodes e))
+
+    pub sets_attrs_at-renamed : (n : Name) → sets_attrs_at (renamed f w) (f.to n) ≡ sets_attrs_at w n
+    sets_attrs_at-renamed n = rw (info_at-renamed f w n, node_at-renamed f w n) (edit_by-renamed (info_at w n) (get w.nodes n))
