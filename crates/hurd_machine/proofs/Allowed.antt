@@ -75,7 +75,7 @@ May S v x (Send r q) = RightMay S v x r × (HasUid S v 0 ⊎ IdsMay S v r)  -- t
 May S v x (Attach s at i node) = (S s.task.0 ≡ true) × ((n : Name) → IsAmong n i.targets → SeenOrNew S v n)
 May S v x (DropServer s) = Unit {0}
 May S v x (Unseat n) = Unit {0}
-May S v x (SetText s text) = Unit {0}
+May S v x (SetText s text) = Commands S v s
 May S v x Settle = Unit {0}
 
 module _ (S : ℕ → Bool) (v x : World) (coherent : Coherent x) (i : Inside S v x) where
@@ -296,7 +296,12 @@ module _ (S : ℕ → Bool) (v x : World) (coherent : Coherent x) (i : Inside S 
     | inl a ↦ inr (subst (NewTo S v) (sym a.0) (next_new q p.next m.0), subst (λ (z : ServerInfo). NewTo S v z.root) a.1 (root_new q at j node p m.0), subst (λ (z : ServerInfo). (t : Name) → IsAmong t z.targets → SeenOrNew S v t) a.1 m.1)
     | inr a ↦ i.servers s k a.1
   ]
-  servers_next (SetText q text) ex p m s k e = let l = server_was x q text s k e in i.servers s (with_text l.0 k) l.1
+  servers_next (SetText q text) ex p m s k e = elim (same_or_apart s q) [
+    | inl same ↦
+        let l = server_was x q text s k e in
+        elim (i.servers s (with_text l.0 k) l.1) [ inl old ↦ inl (old.0, old.1, inr (subst (Commands S v) (sym same) m)) | inr new ↦ inr new ]
+    | inr apart ↦ i.servers s k (sym (edit_apart x.servers q (with_text text) s apart) ∙ e)
+  ]
   servers_next (DropServer q) ex p m s k e = i.servers s k (dropped_was x q s k e).0
   servers_next Settle ex p m s k e = absurd ex
   servers_next c ex p m s k e = i.servers s k e

@@ -1,9 +1,10 @@
 -- What a call asks: the same in worlds that answer the same, what an answer shows, and that no answer is want of memory.
 use Rattle.std.proofs.Common.{List, ◌≡◌, ℕ, Bool, true, false, Option, Some, None, refl, sym, ◌∙◌, ap, ap₂, subst, true≢false, ◌&&◌}
 use Rattle.std.specs.Prelude.{if◌then◌else◌, not, is_some, nat_lt, Result, Ok, Err}
-use Rattle.hurd_machine.proofs.Common.{Body, BodyOf, Coherent, InRoot, faced, known_text, reads_text, server_at, with_text, EBADF, EDIED, EEXIST, EISDIR, ENOTDIR, EOPNOTSUPP, EOVERFLOW, EROFS, ESRCH, EXDEV, Errno, Header, Holds, Io, IoRight, IsAmong, IsOpen, Kind, Name, Named, Node, OpenFlags, Plan, Question, READ, Reply, Right, Seen, Sees, ServerInfo, Task, WRITE, World, answered, are_kin, asked_at, asked_of, asks, counts_at, counts_by, edit_by, ends_at, entry_of, first, get, given, handle_asks, header_at, home_at, info_at, info_in, io_right_of, is_dir, is_made, is_no_memory, is_refused, is_root_at, is_server_root, is_taken, keeps_tree, link_by, link_in, links_at, makes_at, most_links, on, open_at, or_refuse, port_asks, ports_of, refuse, right_at, right_in, rights_of, sets_attrs_at, stream_at, task_at, task_of, tells, writing, EndsOf}
+use Rattle.hurd_machine.proofs.Common.{Body, BodyOf, Coherent, InRoot, faced, known_text, reads_text, server_at, with_text, EBADF, EDIED, EEXIST, EISDIR, ENOSPC, ENOTDIR, EOPNOTSUPP, EOVERFLOW, EROFS, ESRCH, EXDEV, Errno, Header, Holds, Io, IoRight, IsAmong, IsOpen, Kind, Name, Named, Node, OpenFlags, Plan, Question, READ, Reply, Right, Seen, Sees, ServerInfo, Task, WRITE, World, answered, are_kin, asked_at, asked_of, asks, counts_at, counts_by, edit_by, ends_at, entry_of, first, get, given, handle_asks, header_at, home_at, info_at, info_in, io_right_of, is_dir, is_made, is_no_memory, is_refused, is_root_at, is_server_root, is_taken, keeps_tree, link_by, link_in, links_at, makes_at, most_links, on, open_at, or_refuse, port_asks, ports_of, refuse, right_at, right_in, rights_of, sets_attrs_at, stream_at, task_at, task_of, tells, writing, EndsOf, counts_for, fitting, overfills, space_at}
 use Rattle.hurd_trans_iface.specs.Kinds.{ServerKind, behaviour_of}
-use Rattle.hurd_trans_iface.specs.Behaviour.{resizing}
+use Rattle.hurd_trans_iface.specs.Behaviour.{Effect, resizing, size_left}
+use Rattle.hurd_trans_iface.specs.Nodes.{linked}
 use Rattle.hurd_trans_iface.specs.Meaning.{root_of}
 use Rattle.hurd_trans_iface.specs.Good.{IsPlain as IsPlainAnswer, IsUntold}
 use Rattle.hurd_nodes.specs.Shown.{readable_by, made_by}
@@ -19,6 +20,7 @@ use Rattle.hurd_machine.proofs.Nodes.{header_in, body_in, root_info}
 use Rattle.hurd_machine.proofs.Rights.{right_under}
 use Rattle.hurd_machine.proofs.Views.{Agree, same_tasks, header_same, body_same, home_same, face_same, server_known, open_same}
 use Rattle.hurd_machine.proofs.Faces.{face_in, face_reads, none_faced, of_face, root_told}
+use Rattle.hurd_machine.proofs.Spaces.{space_same}
 use Rattle.hurd_machine.proofs.Coherence.{home_server}
 use Rattle.hurd_trans_iface.proofs.Goods.{good, reads_lone}
 use Rattle.std.proofs.lemmas.Bool.{or_left, or_right}
@@ -280,21 +282,23 @@ IsBlind q k =
     (old new : List ℕ) (h : Header) (c e : Body)
     → let x : Node = record { header = h; body = c } in let y : Node = record { header = h; body = e } in q (behaviour_of k) new y ≡ q (behaviour_of k) old x
 
-blind_same : {T : Type 0} (q : Question T) → (i j : Option ServerInfo) (o p : Option Node) → ((k : ServerInfo) → i ≡ Some k → IsBlind q k.kind) → face_in j ≡ face_in i → header_in p ≡ header_in o → asked_of q j p ≡ asked_of q i o
-blind_same q None None o p blind f h = refl
-blind_same q (Some i) (Some j) None None blind f h = refl
-blind_same q (Some i) (Some j) (Some x) (Some y) blind f h =
+blind_same : {T : Type 0} (q : Question T) (space : Option ℕ) → (i j : Option ServerInfo) (o p : Option Node) → ((k : ServerInfo) → i ≡ Some k → IsBlind q k.kind) → face_in j ≡ face_in i → header_in p ≡ header_in o
+    → asked_of q j space p ≡ asked_of q i space o
+blind_same q space None None o p blind f h = refl
+blind_same q space (Some i) (Some j) None None blind f h = refl
+blind_same q space (Some i) (Some j) (Some x) (Some y) blind f h =
     let face : faced j ≡ faced i = cc in
     let header : y.header ≡ x.header = cc in
-    ap (λ (z : ServerInfo). q (behaviour_of z.kind) j.text y) face
-    ∙ ap (λ (k : Header). q (behaviour_of i.kind) j.text (record { header = k; body = y.body })) header ∙ blind i refl i.text j.text x.header x.body y.body
-blind_same q i j o p blind f h = absurd (cc)
+    ap (λ (z : ServerInfo). fitting space y.header (q (behaviour_of z.kind) j.text y)) face
+    ∙ ap (λ (k : Header). fitting space k (q (behaviour_of i.kind) j.text (record { header = k; body = y.body }))) header
+    ∙ ap (fitting space x.header) (blind i refl i.text j.text x.header x.body y.body)
+blind_same q space i j o p blind f h = absurd (cc)
 
 -- what goes by no text but one that whoever knows the server is told
-asked_untold : {T : Type 0} (q : Question T) (i : ServerInfo) (o : Option Node) → IsUntold (behaviour_of i.kind) q → (text : List ℕ) → known_text i.kind text ≡ known_text i.kind i.text
-    → asked_of q (Some (with_text text i)) o ≡ asked_of q (Some i) o
-asked_untold q i None untold text known = refl
-asked_untold q i (Some x) untold text known = untold i.text text x known
+asked_untold : {T : Type 0} (q : Question T) (i : ServerInfo) (space : Option ℕ) (o : Option Node) → IsUntold (behaviour_of i.kind) q → (text : List ℕ) → known_text i.kind text ≡ known_text i.kind i.text
+    → asked_of q (Some (with_text text i)) space o ≡ asked_of q (Some i) space o
+asked_untold q i space None untold text known = refl
+asked_untold q i space (Some x) untold text known = ap (fitting space x.header) (untold i.text text x known)
 
 readable_untold : (at : ℕ) (o : Option Node) (i : ServerInfo) → reads_text (root_of i.kind i.text) ≡ false → (text : List ℕ) → known_text i.kind text ≡ known_text i.kind i.text
     → count_in (readable_by at (Some (with_text text i)) o) ≡ count_in (readable_by at (Some i) o)
@@ -315,9 +319,9 @@ edit_face : (o : Option Node) (i : ServerInfo) → edit_by (Some (faced i)) o �
 edit_face None i = refl
 edit_face (Some x) i = refl
 
-link_face : (name : List ℕ) (kin : Bool) (d o : Option Node) (i : ServerInfo) → link_by name kin (Some (faced i)) d o ≡ link_by name kin (Some i) d o
-link_face name kin None o i = refl
-link_face name kin (Some d) o i = refl
+link_face : (name : List ℕ) (kin : Bool) (space : Option ℕ) (d o : Option Node) (i : ServerInfo) → link_by name kin (Some (faced i)) space d o ≡ link_by name kin (Some i) space d o
+link_face name kin space None o i = refl
+link_face name kin space (Some d) o i = refl
 
 -- whether attributes may be set is the same of nodes that are there alike
 there_same : (i : Option ServerInfo) (o p : Option Node) → header_in p ≡ header_in o → edit_by i p ≡ edit_by i o
@@ -401,12 +405,18 @@ module _ {S : ℕ → Bool} {v w : World} (a : Agree S v w) (n : Name) where
   -- whatever is asked of a node whose body S sees, and doesn't tell the text where reading doesn't
   pub asked_seen : {T : Type 0} (q : Question T) → ((k : ServerKind) (text : List ℕ) → reads_text (root_of k text) ≡ false → IsUntold (behaviour_of k) q) → Coherent v → Sees S v (BodyOf n) → asked_at q n w ≡ asked_at q n v
   asked_seen q untold c s =
-      ap (asked_of q (info_at w n)) (seen_node s)
-      ∙ read_seen (λ i. asked_of q i (get v.nodes n)) (λ i out text known. asked_untold q i (get v.nodes n) (untold i.kind i.text out) text known) c s
+      ap₂ (asked_of q (info_at w n)) (space_same a n s.0) (seen_node s)
+      ∙ read_seen (λ i. asked_of q i (space_at v n) (get v.nodes n)) (λ i out text known. asked_untold q i (space_at v n) (get v.nodes n) (untold i.kind i.text out) text known) c s
+
+  -- what goes by no body and no text
+  blind_alike : {T : Type 0} (q : Question T) → ((k : ServerInfo) → info_at v n ≡ Some k → IsBlind q k.kind) → Seen S v n → asked_at q n w ≡ asked_at q n v
+  blind_alike q blind s =
+      ap (λ space. asked_of q (info_at w n) space (get w.nodes n)) (space_same a n s)
+      ∙ blind_same q (space_at v n) (info_at v n) (info_at w n) (get v.nodes n) (get w.nodes n) blind (info_seen s) (header_same a n s)
 
   -- what is blind to the body and to the text, of any node that S sees
   pub asked_same : {T : Type 0} (q : Question T) → ((k : ServerKind) → IsBlind q k) → Seen S v n → asked_at q n w ≡ asked_at q n v
-  asked_same q blind s = blind_same q (info_at v n) (info_at w n) (get v.nodes n) (get w.nodes n) (λ k is. blind k.kind) (info_seen s) (header_same a n s)
+  asked_same q blind s = blind_alike q (λ k is. blind k.kind) s
 
   -- what is written into a node that S sees, of which S sees what is in it where its server is told who reads
   pub written_same : (at : ℕ) (bs : List ℕ) (readers : ℕ) → Coherent v → Seen S v n → (counts_at v n ≡ true → Sees S v (BodyOf n)) → asked_at (writing at bs readers) n w ≡ asked_at (writing at bs readers) n v
@@ -414,34 +424,46 @@ module _ {S : ℕ → Bool} {v w : World} (a : Agree S v w) (n : Name) where
     where
       go : (b : Bool) → counts_at v n ≡ b → asked_at (writing at bs readers) n w ≡ asked_at (writing at bs readers) n v
       go true e = asked_seen (writing at bs readers) (λ k text out old new x told. (good k).guards.write_untold old new x at bs readers) c (sees e)
-      go false e = blind_same (writing at bs readers) (info_at v n) (info_at w n) (get v.nodes n) (get w.nodes n) (λ k is. writing_blind at bs readers k.kind (sym (ap counts_by is) ∙ e)) (info_seen s) (header_same a n s)
+      go false e = blind_alike (writing at bs readers) (λ k is. writing_blind at bs readers k.kind (sym (ap counts_by is) ∙ e)) s
 
 -- whether a node may get another name is the same of nodes of one header
-file_same : (name : List ℕ) (kin : Bool) (i : Option ServerInfo) (d o p : Option Node) → header_in p ≡ header_in o → link_by name kin i d p ≡ link_by name kin i d o
-file_same name kin None d o p h = refl
-file_same name kin (Some i) None o p h = refl
-file_same name kin (Some i) (Some d) None None h = refl
-file_same name kin (Some i) (Some d) (Some x) (Some y) h =
+file_same : (name : List ℕ) (kin : Bool) (i : Option ServerInfo) (space : Option ℕ) (d o p : Option Node) → header_in p ≡ header_in o → link_by name kin i space d p ≡ link_by name kin i space d o
+file_same name kin None space d o p h = refl
+file_same name kin (Some i) space None o p h = refl
+file_same name kin (Some i) space (Some d) None None h = refl
+file_same name kin (Some i) space (Some d) (Some x) (Some y) h =
     let header : y.header ≡ x.header = cc in
-    ap (λ (k : Header). link_by name kin (Some i) (Some d) (Some (record { header = k; body = y.body }))) header
-file_same name kin (Some i) (Some d) o p h = absurd (cc)
+    ap (λ (k : Header). link_by name kin (Some i) space (Some d) (Some (record { header = k; body = y.body }))) header
+file_same name kin (Some i) space (Some d) o p h = absurd (cc)
 
 module _ {S : ℕ → Bool} {v w : World} (a : Agree S v w) (d n : Name) where
   -- whether a file that S sees may get another name in a directory whose entries S sees
   pub links_same : (name : List ℕ) → Sees S v (BodyOf d) → Seen S v n → links_at w d name n ≡ links_at v d name n
   links_same name s seen =
-      ap₂ (λ h k. link_by name (are_kin h k) (info_at w d) (get w.nodes d) (get w.nodes n)) (home_same a d s.0) (home_same a n seen)
-      ∙ info_alike a d (λ i. link_by name (are_kin (home_at v d) (home_at v n)) i (get w.nodes d) (get w.nodes n)) (link_face name (are_kin (home_at v d) (home_at v n)) (get w.nodes d) (get w.nodes n)) s.0
-      ∙ ap (λ x. link_by name (are_kin (home_at v d) (home_at v n)) (info_at v d) x (get w.nodes n)) (seen_node a d s)
-      ∙ file_same name (are_kin (home_at v d) (home_at v n)) (info_at v d) (get v.nodes d) (get v.nodes n) (get w.nodes n) (header_same a n seen)
+      let kin : Bool = are_kin (home_at v d) (home_at v n) in
+      ap₂ (λ h k. link_by name (are_kin h k) (info_at w d) (space_at w d) (get w.nodes d) (get w.nodes n)) (home_same a d s.0) (home_same a n seen)
+      ∙ info_alike a d (λ i. link_by name kin i (space_at w d) (get w.nodes d) (get w.nodes n)) (link_face name kin (space_at w d) (get w.nodes d) (get w.nodes n)) s.0
+      ∙ ap₂ (λ space x. link_by name kin (info_at v d) space x (get w.nodes n)) (space_same a d s.0) (seen_node a d s)
+      ∙ file_same name kin (info_at v d) (space_at v d) (get v.nodes d) (get v.nodes n) (get w.nodes n) (header_same a n seen)
+
+-- a gate refuses for want of space alone
+
+gate_plain : {A : Type 0} (full : Bool) (x : Result A Errno) → IsPlain x → IsPlain (if full then Err ENOSPC else x)
+gate_plain true x p = err_plain ENOSPC refl
+gate_plain false x p = p
+
+fitting_plain : {T : Type 0} (space : Option ℕ) (h : Header) (e : Effect T) → IsPlain e → IsPlain (fitting space h e)
+fitting_plain None h e p = p
+fitting_plain (Some k) h (Err e) p = p
+fitting_plain (Some k) h (Ok d) p = gate_plain (overfills (Some k) (counts_for h) (counts_for (size_left d.size h))) (Ok d) p
 
 pub asked_plain : {T : Type 0} (q : Question T) → ((k : ServerKind) → IsPlainAnswer (behaviour_of k) q) → (n : Name) (w : World) → IsPlain (asked_at q n w)
 asked_plain q plain n w = go (info_at w n) (get w.nodes n)
   where
-    go : (i : Option ServerInfo) (o : Option Node) → IsPlain (asked_of q i o)
+    go : (i : Option ServerInfo) (o : Option Node) → IsPlain (asked_of q i (space_at w n) o)
     go None o = err_plain EDIED refl
     go (Some i) None = err_plain EDIED refl
-    go (Some i) (Some x) = plain i.kind i.text x
+    go (Some i) (Some x) = fitting_plain (space_at w n) x.header (q (behaviour_of i.kind) i.text x) (plain i.kind i.text x)
 
 if_plain : {A : Type 0} (b : Bool) (x y : Result A Errno) → IsPlain x → IsPlain y → IsPlain (if b then x else y)
 if_plain true x y px py = px
@@ -470,15 +492,19 @@ sets_attrs_plain w n = go (info_at w n) (get w.nodes n)
 pub links_plain : (w : World) (d : Name) (name : List ℕ) (n : Name) → IsPlain (links_at w d name n)
 links_plain w d name n = go (are_kin (home_at w d) (home_at w n)) (info_at w d) (get w.nodes d) (get w.nodes n)
   where
-    in_tree : (kin : Bool) (d : Node) (o : Option Node) → IsPlain (link_in name kin d o)
+    space : Option ℕ
+    space = space_at w d
+
+    in_tree : (kin : Bool) (d : Node) (o : Option Node) → IsPlain (link_in space name kin d o)
     in_tree kin d None = err_plain EDIED refl
     in_tree kin d (Some x) =
         if_plain (not kin) _ _ (err_plain EXDEV refl)
         (if_plain (is_dir x.header.kind) _ _ (err_plain EISDIR refl)
         (if_plain (is_some (entry_of name (Some d.body))) _ _ (err_plain EEXIST refl)
-        (if_plain (nat_lt x.header.links most_links) _ _ (ok_plain tt) (err_plain EOVERFLOW refl))))
+        (gate_plain (overfills space (counts_for x.header) (counts_for (linked x.header))) _
+        (if_plain (nat_lt x.header.links most_links) _ _ (ok_plain tt) (err_plain EOVERFLOW refl)))))
 
-    go : (kin : Bool) (i : Option ServerInfo) (d o : Option Node) → IsPlain (link_by name kin i d o)
+    go : (kin : Bool) (i : Option ServerInfo) (d o : Option Node) → IsPlain (link_by name kin i space d o)
     go kin None d o = err_plain EDIED refl
     go kin (Some i) None o = err_plain EDIED refl
     go kin (Some i) (Some d) o =

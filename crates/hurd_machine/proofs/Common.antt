@@ -23,16 +23,16 @@ pub use Rattle.hurd_creds.specs.declared.attrs.Kind.TheVariants.{Dir, File}
 pub use Rattle.hurd_creds.specs.declared.attrs.Want.{Want}
 pub use Rattle.hurd_creds.specs.declared.attrs.Want.TheVariants.{Exec, Read, Write}
 pub use Rattle.hurd_creds.specs.declared.errno.Errno.{Errno}
-pub use Rattle.hurd_creds.specs.declared.errno.Errno.TheVariants.{EACCES, EBADF, EBUSY, EDIED, EEXIST, EINVAL, EISDIR, ENAMETOOLONG, ENOENT, ENOMEM, ENOTDIR, ENOTEMPTY, ENXIO, EOPNOTSUPP, EOVERFLOW, EPERM, EROFS, ESRCH, EWOULDBLOCK, EXDEV}
+pub use Rattle.hurd_creds.specs.declared.errno.Errno.TheVariants.{EACCES, EBADF, EBUSY, EDIED, EEXIST, EINVAL, EISDIR, ENAMETOOLONG, ENOENT, ENOMEM, ENOSPC, ENOTDIR, ENOTEMPTY, ENXIO, EOPNOTSUPP, EOVERFLOW, EPERM, EROFS, ESRCH, EWOULDBLOCK, EXDEV}
 pub use Rattle.hurd_creds.specs.declared.mode.Mode.{Mode}
 pub use Rattle.hurd_creds.specs.declared.name.Name.{Name}
 pub use Rattle.hurd_creds.specs.declared.name.TaskId.{TaskId}
 pub use Rattle.hurd_creds.specs.declared.open_flags.OpenFlags.{OpenFlags}
 pub use Rattle.hurd_trans_iface.specs.Answers.{edits_if, entry_in, entry_of, header_after, is_made, is_one, is_plain, is_taken, is_tree, link_in, made_node, most_links, move_edits, named_by, names_of, rename_edits, unlink_edits}
-pub use Rattle.hurd_trans_iface.specs.Behaviour.{Did, Question, edit_bytes, edit_size, edits_of, resizing, writing}
+pub use Rattle.hurd_trans_iface.specs.Behaviour.{Did, Question, edit_bytes, edit_size, edits_of, fitting, resizing, writing}
 pub use Rattle.hurd_trans_iface.specs.Good.{GoodBehaviour}
 pub use Rattle.hurd_trans_iface.specs.Texts.{reads_text}
-pub use Rattle.hurd_trans_iface.specs.Meaning.{Meaning, counts_opens, empty_body, keeps_tree, new_root, options_of, size_of}
+pub use Rattle.hurd_trans_iface.specs.Meaning.{Meaning, counts_opens, empty_body, keeps_tree, limit_of, new_root, options_of, size_of}
 pub use Rattle.hurd_trans_iface.specs.Nodes.{AddNode, Body, Content, Edit, Header, IsShaped, Listing, Node, NodeMap, OnBody, OnHeader, body_of, edit_all, has_words, header_of, is_dir, is_empty_dir, is_entered, is_entered_at, is_listed, less_entry, moved_to, new_dir, new_file, node_of_edit, on_bytes, passive_of, some_words, unlinked, with_body, with_entry, with_header, with_passive, with_size, without_entry}
 pub use Rattle.hurd_trans_iface.specs.declared.header_edit.HeaderEdit.{HeaderEdit}
 pub use Rattle.hurd_trans_iface.specs.declared.new_node.NewNode.{NewNode}
@@ -51,7 +51,7 @@ pub use Rattle.hurd_ports.specs.declared.table.Right.TheVariants.{Control, Io, S
 pub use Rattle.hurd_nodes.specs.Held.{active_in, home_in, is_home, new_site}
 pub use Rattle.hurd_nodes.specs.Needs.{counts_by}
 pub use Rattle.hurd_nodes.specs.Settle.{Outside, node_stays, stays_by, stays_with}
-pub use Rattle.hurd_nodes.specs.Shown.{NodeState, ServerInfo, are_kin, asked_of, attached, begun_info, begun_root, boot_mode, boot_name, booted, can_make, edit_by, edit_header_at, info_in, is_other, is_root_at, is_root_of, link_by, make_at, out_server, own_edits, own_nodes, server_of, shown, sizing, state_of, takes_options, tree_by, vacated, with_active, with_edits, with_home, with_made, with_text, without_old, without_sites}
+pub use Rattle.hurd_nodes.specs.Shown.{NodeState, ServerInfo, are_kin, asked_of, attached, begun_info, begun_root, boot_mode, boot_name, booted, can_make, edit_by, edit_header_at, info_in, is_other, is_root_at, is_root_of, limit_by, link_by, make_at, out_server, own_edits, own_nodes, server_of, shown, sizing, sizing_unless, state_of, takes_options, tree_by, vacated, with_active, with_edits, with_home, with_made, with_text, without_old, without_sites}
 pub use Rattle.hurd_nodes.specs.declared.seat.Site.{Site}
 pub use Rattle.hurd_machine.specs.Calls.{Call, Reply, box_in, call_by, refusal, reply_by}
 pub use Rattle.hurd_machine.specs.Change.{Attach, Change, DropServer, EditBody, EditHeader, EditOpen, EditTask, LetGo, MakeNode, MakeOpen, Send, SetText, Settle, Unseat, apply, apply_all, changes_of, dropping, letting_go, namings, opening, outside, outside_by, pending, retexting, stays, with_nodes}
@@ -63,7 +63,7 @@ pub use Rattle.hurd_machine.specs.Sound.{Above, AreDistinct, AreFilled, AreSeate
 unfoldable pub use Rattle.hurd_machine.specs.Sound.{times_listed}
 pub use Rattle.hurd_machine.specs.Touched.{Nothing, OnDid, OnDrop, OnRight}
 unfoldable pub use Rattle.hurd_machine.specs.Touched.{asked_parts}
-pub use Rattle.hurd_machine.specs.World.{IsAmong, World, active_at, asked_at, body_at, boot_root, counts_at, ends_at, gives_text, header_at, home_at, info_at, is_of, is_removed, is_server_root, leads_on, links_at, lists, lists_at, makes_at, node_at, only_reads, open_at, ports_of, renames_at, server_at, sets_attrs_at, shape_at, shape_by, site_at, stream_at, targets_at, targets_in, task_at, words_at, words_in, world_from, total_at}
-pub use Rattle.hurd_trans_iface.specs.Totals.{counts_for}
+pub use Rattle.hurd_machine.specs.World.{IsAmong, World, active_at, asked_at, body_at, boot_root, counts_at, ends_at, gives_text, header_at, home_at, info_at, is_of, is_removed, is_server_root, leads_on, links_at, lists, lists_at, makes_at, node_at, only_reads, open_at, ports_of, renames_at, server_at, sets_attrs_at, shape_at, shape_by, site_at, stream_at, targets_at, targets_in, task_at, words_at, words_in, world_from, total_at, space_at}
+pub use Rattle.hurd_trans_iface.specs.Totals.{counts_for, overfills, space_with}
 unfoldable pub use Rattle.hurd_trans_iface.specs.Totals.{total_in}
 pub use Rattle.hurd_nodes.specs.Totals.{nodes_in, total_if, total_of}

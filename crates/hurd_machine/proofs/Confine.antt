@@ -1,6 +1,6 @@
 -- What S sees in a world that stays inside what it saw: parts that it saw, and new things of its own tasks.
-use Rattle.std.proofs.Common.{true≢false, ◌≡◌, ◌⊎◌, ℕ, ◌≤◌, Bool, true, List, Some, sym, refl, ◌∙◌, subst, inl, inr, arith, false, Option, None}
-use Rattle.hurd_machine.proofs.Common.{Active, Allowed, AttrOf, Below, BodyOf, ByBody, ByControl, ByNode, ByParent, BySeat, Child, Coherent, Control, Could, CouldServe, Dir, EmptyOf, Exec, GidOfRight, GidOfTask, HasGid, HasUid, Header, Holds, Io, IoRight, IsAmong, IsOpen, Knows, MaySend, Name, OfControl, OfNode, OfSeat, OpenFlags, OpenOf, Opened, OptionsOf, Owns, OwnsIt, Part, Pending, READ, Read, Right, Seen, Sees, SeesBody, SeesEmpty, Sends, ServerInfo, ServerRoot, Start, Taken, Target, Task, TaskOf, TextOf, SeesText, ToControl, InRoot, ToPut, ToRead, ToSearch, UidOfRight, UidOfTask, UsersOf, WRITE, Want, Way, World, Write, active_at, asks, body_at, boot_root, counts_at, counts_by, counts_opens, entry_of, header_at, home_at, info_in, open_at, server_at, task_at, tells, with_text, EndsOf, TotalOf, SeesTotal}
+use Rattle.std.proofs.Common.{true≢false, ◌≡◌, ◌⊎◌, ℕ, ◌≤◌, Bool, true, List, Some, sym, refl, ◌∙◌, subst, inl, inr, arith, false, Option, None, is_some, ap}
+use Rattle.hurd_machine.proofs.Common.{Active, Allowed, AttrOf, Below, BodyOf, ByBody, ByControl, ByNode, ByParent, BySeat, Child, Coherent, Control, Could, CouldServe, Dir, EmptyOf, Exec, GidOfRight, GidOfTask, HasGid, HasUid, Header, Holds, Io, IoRight, IsAmong, IsOpen, Knows, MaySend, Name, OfControl, OfNode, OfSeat, OpenFlags, OpenOf, Opened, OptionsOf, Owns, OwnsIt, Part, Pending, READ, Read, Right, Seen, Sees, SeesBody, SeesEmpty, Sends, ServerInfo, ServerRoot, Start, Taken, Target, Task, TaskOf, TextOf, SeesText, ToControl, InRoot, ToPut, ToRead, ToSearch, UidOfRight, UidOfTask, UsersOf, WRITE, Want, Way, World, Write, active_at, asks, body_at, boot_root, counts_at, counts_by, counts_opens, entry_of, header_at, home_at, info_in, open_at, server_at, task_at, tells, with_text, EndsOf, TotalOf, SeesTotal, limit_of}
 use Rattle.hurd_ports.specs.Tables.{nodes_of as nodes_named}
 use Rattle.hurd_machine.specs.Sight.{Root, Held, Controlled, Parent}
 use Rattle.hurd_machine.proofs.Coherence.{header_old, entry_old, home_old, right_old, entry_lists, home_server, seat_there}
@@ -118,9 +118,9 @@ pub record TakesLess (S : ℕ → Bool) (v x : World) : Type 0 where
   pub tasks : (q : ℕ) (y : Task) → S q ≡ true → task_at x q ≡ Some y → Taken S v y.ids
   pub rights : (r : IoRight) → Holds S x (Io r) → Taken S v r.ids
 
--- a server that was, but for its text, or a new one of S, with its root, which aims at nothing beyond what S saw or made
+-- a server that was, but for its text, which is another only where S commands it; or a new one of S, with its root, which aims at nothing beyond what S saw or made
 abbrev pub ServerInside : (ℕ → Bool) → World → Name → ServerInfo → Type 0
-ServerInside S v s i = ((text : List ℕ) × (server_at v s ≡ Some (with_text text i))) ⊎ (NewTo S v s × NewTo S v i.root × ((n : Name) → IsAmong n i.targets → SeenOrNew S v n))
+ServerInside S v s i = ((text : List ℕ) × (server_at v s ≡ Some (with_text text i)) × ((text ≡ i.text) ⊎ Commands S v s)) ⊎ (NewTo S v s × NewTo S v i.root × ((n : Name) → IsAmong n i.targets → SeenOrNew S v n))
 
 -- the server of a node that was its server, or the node is a new one of S, of a server that S knew or made
 abbrev pub HomeInside : (ℕ → Bool) → World → Name → Name → Type 0
@@ -146,7 +146,7 @@ held_inside S v (Start n) h = inl (Pending h)
 
 pub Inside-refl : (S : ℕ → Bool) (v : World) → Inside S v v
 Inside-refl S v = record {
-  servers = λ s i e. inl (i.text, e);
+  servers = λ s i e. inl (i.text, e, inl refl);
   actives = λ n s e. inl e;
   made = λ q y e. (y, e, omega arith);
   power = inr (record {
@@ -330,9 +330,25 @@ module _ {S : ℕ → Bool} {v x : World} (coherent : Coherent v) (i : Inside S 
       root : home_at v info.root ≡ Some q
       root = coherent.housing.roots q (with_text is.0 info) is.1
 
+  -- a limit that is there was there, or S could set it
+  limit_before : (q : Name) (info : ServerInfo) (text : List ℕ) → server_at v q ≡ Some (with_text text info) → (text ≡ info.text) ⊎ Commands S v q → is_some (limit_of info.kind info.text) ≡ true
+      → (is_some (limit_of info.kind text) ≡ true) ⊎ Sends S v q (with_text text info)
+  limit_before q info text is (inl same) limited = inl (ap (λ (t : List ℕ). is_some (limit_of info.kind t)) same ∙ limited)
+  limit_before q info text is (inr commands) limited = inr (commands_send S v q (with_text text info) is commands)
+
   total_inside : (q : Name) (t : SeesTotal S x q) → ServerInside S v q t.info → Known S v (TotalOf q)
   total_inside q t (inr new) = inr new.0
-  total_inside q t (inl is) = elim (sends_inside q t.info is.0 is.1 t.why) [ inl k ↦ inl (record { info = with_text is.0 t.info; is_server = is.1; tree = t.tree; why = k }) | inr new ↦ inr new ]
+  total_inside q t (inl is) = elim (knows_inside q t.knows) [
+    | inl knows ↦ elim (why_inside t.why) [
+      | inl why ↦ inl (record { info = with_text is.0 t.info; is_server = is.1; knows = knows; tree = t.tree; why = why })
+      | inr new ↦ inr new
+    ]
+    | inr new ↦ inr new
+  ]
+    where
+      why_inside : (is_some (limit_of t.info.kind t.info.text) ≡ true) ⊎ Sends S x q t.info → ((is_some (limit_of t.info.kind is.0) ≡ true) ⊎ Sends S v q (with_text is.0 t.info)) ⊎ NewTo S v q
+      why_inside (inl limited) = inl (limit_before q t.info is.0 is.1 is.2 limited)
+      why_inside (inr sends) = elim (sends_inside q t.info is.0 is.1 sends) [ inl k ↦ inl (inr k) | inr new ↦ inr new ]
 
   -- a part that is seen was seen, or is new
   pub sees_inside : (p : Part) → Sees S x p → Known S v p

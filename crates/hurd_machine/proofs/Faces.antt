@@ -1,10 +1,11 @@
 -- A server as whoever knows it sees it, and its text.
-use Rattle.std.proofs.Common.{◌≡◌, ℕ, List, Option, Some, None, sym, refl, ◌∙◌, ap, ap₂}
+use Rattle.std.proofs.Common.{if◌then◌else◌, ◌||◌, ◌≡◌, ℕ, Bool, true, false, List, [], Option, Some, None, sym, refl, ◌∙◌, ap, ap₂}
 use Rattle.std.specs.Option.{option_map}
 use Rattle.hurd_trans_iface.specs.Kinds.{ServerKind}
 use Rattle.hurd_trans_iface.specs.Meaning.{root_of}
+use Rattle.hurd_trans_iface.specs.Texts.{is_link}
 use Rattle.hurd_trans_iface.proofs.Goods.{good}
-use Rattle.hurd_machine.proofs.Common.{ServerInfo, faced, reads_text, known_text, with_text}
+use Rattle.hurd_machine.proofs.Common.{ServerInfo, faced, is_tree, keeps_tree, known_text, limit_of, reads_text, with_text}
 use Rattle.hurd_machine.proofs.Nodes.{by_option}
 
 abbrev pub face_in : Option ServerInfo → Option ServerInfo
@@ -19,6 +20,30 @@ root_told k text = (good k).guards.rooted text
 
 pub reads_same : (k : ServerKind) (old new : List ℕ) → reads_text (root_of k new) ≡ reads_text (root_of k old)
 reads_same k old new = (good k).guards.reads_alike old new
+
+-- the text of a tree is seen, and that of no other server but a link
+
+told_or : (link tree : Bool) (text : List ℕ) → tree ≡ true → (if link || tree then text else []) ≡ text
+told_or true tree text is = refl
+told_or false tree text is = rw is refl
+
+pub tree_told : (k : ServerKind) (text : List ℕ) → keeps_tree k ≡ true → known_text k text ≡ text
+tree_told k text tree = told_or (is_link (root_of k text).crossing) (is_tree (root_of k text)) text ((good k).rooted text ∙ tree)
+
+untold_or : (link tree : Bool) (text : List ℕ) → link ≡ false → tree ≡ false → (if link || tree then text else []) ≡ []
+untold_or false false text no_link lone = refl
+untold_or link tree text no_link lone = absurd (cc)
+
+pub lone_untold : (k : ServerKind) (text : List ℕ) → is_link (root_of k text).crossing ≡ false → keeps_tree k ≡ false → known_text k text ≡ []
+lone_untold k text no_link lone = untold_or (is_link (root_of k text).crossing) (is_tree (root_of k text)) text no_link ((good k).rooted text ∙ lone)
+
+-- so its limit is seen
+pub limit_told : (k : ServerKind) (text : List ℕ) → limit_of k (known_text k text) ≡ limit_of k text
+limit_told k text = go (keeps_tree k) refl
+  where
+    go : (b : Bool) → keeps_tree k ≡ b → limit_of k (known_text k text) ≡ limit_of k text
+    go true tree = ap (limit_of k) (tree_told k text tree)
+    go false lone = (good k).unlimited lone (known_text k text) ∙ sym ((good k).unlimited lone text)
 
 -- what is read of a server as it is seen is the same of servers that are seen alike
 pub face_reads : {P : Type 0} (read : Option ServerInfo → P) → ((i : ServerInfo) → read (Some (faced i)) ≡ read (Some i)) → (o p : Option ServerInfo) → face_in p ≡ face_in o → read p ≡ read o

@@ -2,7 +2,7 @@
 use Rattle.std.proofs.Common.{◌≡◌, ◌≢◌, ℕ, true, List, [], ◌∷◌, ◌++◌, Option, Some, None, sym, refl, ◌∙◌, ap, ap₂, subst, inl, inr}
 use Rattle.std.specs.Prelude.{Ok}
 use Rattle.std.specs.Option.{option_map}
-use Rattle.hurd_machine.proofs.Common.{AreFilled, Body, Change, Coherent, Did, EditBody, EditHeader, EditOpen, EditTask, GoodBehaviour, Header, IsFilled, MakeNode, MakeOpen, Name, Node, Question, Send, ServerInfo, Settle, World, apply, apply_all, asked_at, asked_of, changes_of, edit, edit_bytes, edit_size, edits_of, get, info_at, info_in, new_site, on_bytes, server_at, stays, tree_by, with_body, with_entry, with_header, with_size, without_entry, LetGo}
+use Rattle.hurd_machine.proofs.Common.{AreFilled, Body, Change, Coherent, Did, EditBody, EditHeader, EditOpen, EditTask, GoodBehaviour, Header, IsFilled, MakeNode, MakeOpen, Name, Node, Question, Send, ServerInfo, Settle, World, apply, apply_all, asked_at, asked_of, changes_of, edit, edit_bytes, edit_size, edits_of, get, info_at, info_in, new_site, on_bytes, server_at, stays, tree_by, with_body, with_entry, with_header, with_size, without_entry, LetGo, space_at}
 use Rattle.hurd_nodes.proofs.Sites.{home-here, home-apart}
 use Rattle.hurd_creds.proofs.NameLaws.{same_or_apart, edit_here, edit_apart}
 use Rattle.hurd_trans_iface.specs.Behaviour.{bytes_left, size_left}
@@ -14,6 +14,7 @@ use Rattle.hurd_machine.specs.World.{nodes_of}
 use Rattle.hurd_machine.proofs.Stays.{sweep, info_still}
 use Rattle.hurd_machine.proofs.Sweeps.{settle_by}
 use Rattle.hurd_machine.proofs.Nodes.{edited_from}
+use Rattle.hurd_machine.proofs.Spaces.{effect_fits}
 use Rattle.hurd_machine.proofs.Coherence.{was}
 use Rattle.hurd_machine.proofs.Keeping.{apply_all-append}
 use Rattle.hurd_creds.proofs.Retained.{was_retained}
@@ -130,7 +131,7 @@ did_filled q keeps w c n d told sized = filled_left w n d.bytes d.size fit sized
     fit : (x : Node) → get w.nodes n ≡ Some x → IsFit (info_at w n) (left_of d.bytes d.size x)
     fit x is i known =
         let old = sized n x i is known in
-        let said = sym (ap₂ (asked_of q) known is) ∙ told in
+        let said = effect_fits (space_at w n) x.header _ d (sym (ap₂ (λ i o. asked_of q i (space_at w n) o) known is) ∙ told) in
         ((keeps i.kind).0 i.text x d (c.tree.shapes n x is) old.0 said, (keeps i.kind).1 i.text x d old.1 said, size_has d.size i.kind x.header old.2)
 
 -- a change of a header that leaves in it what may be there

@@ -52,7 +52,7 @@ Within T w (Attach s at i node) =
     T (TaskOf s.task.0) × T (AttrOf i.root) × T (EmptyOf i.root) × T (BodyOf i.root) × T (EndsOf i.root) × T (AttrOf at) × T (OptionsOf s) × T (TextOf s) × T (TotalOf s)
 Within T w (DropServer s) = (p : Part) → Goes w s p → T p
 Within T w (Unseat n) = T (AttrOf n)
-Within T w (SetText s text) = T (TextOf s) × ((i : ServerInfo) → server_at w s ≡ Some i → faced (with_text text i) ≡ faced i)
+Within T w (SetText s text) = T (TextOf s) × (((i : ServerInfo) → server_at w s ≡ Some i → faced (with_text text i) ≡ faced i) ⊎ T (OptionsOf s))
 Within T w Settle = Unit {0}
 
 abbrev pub AllWithin : (Part → Type 0) → World → List Change → Type 0
@@ -195,12 +195,15 @@ module _ (w : World) (coherent : Coherent w) (T : Part → Type 0) where
   face_set q text None e same = refl
   face_set q text (Some i) e same = ap Some (same i e)
 
-  face_kept : (c : Change) → (s : Name) → Within T w c → face_in (server_at (next_world c w) s) ≡ face_in (server_at w s)
-  face_kept (SetText q text) s i = elim (same_or_apart s q) [
-    | inl e ↦ rw e (ap face_in (edit_here w.servers q (with_text text)) ∙ face_set q text (server_at w q) refl i.1)
+  face_kept : (c : Change) → (s : Name) → Within T w c → (T (OptionsOf s) → ⊥) → face_in (server_at (next_world c w) s) ≡ face_in (server_at w s)
+  face_kept (SetText q text) s i h = elim (same_or_apart s q) [
+    | inl e ↦ elim i.1 [
+      | inl same ↦ rw e (ap face_in (edit_here w.servers q (with_text text)) ∙ face_set q text (server_at w q) refl same)
+      | inr touched ↦ absurd (avoids (OptionsOf s) (OptionsOf q) touched h (ap OptionsOf e))
+    ]
     | inr apart ↦ ap face_in (edit_other w.servers q (with_text text) s apart)
   ]
-  face_kept c s i = refl
+  face_kept c s i h = refl
 
   pub holders_kept : (c : Change) → Proper w c → (o : Name) → Within T w c → (T (OpenOf o) → ⊥) → holders (next_world c w) o ≡ holders w o
   holders_kept (EditTask q f) p o i h =
@@ -277,7 +280,7 @@ module _ (w : World) (coherent : Coherent w) (T : Part → Type 0) where
   next_frame c pr (BodyOf n) i h = ap ABody (body_kept c n i h)
   next_frame c pr (EndsOf n) i h = ap AnEnds (ends_kept c pr n i h)
   next_frame c pr (OpenOf o) i h = ap₂ AnOpen (open_kept c o i h) (holders_kept c pr o i h)
-  next_frame c pr (OptionsOf s) i h = ap AnOptions (face_kept c s i)
+  next_frame c pr (OptionsOf s) i h = ap AnOptions (face_kept c s i h)
   next_frame c pr (TextOf s) i h = ap AText (text_kept c s i h)
   next_frame c pr (UsersOf s) i h = ap AUsers (users_kept c pr s i h)
   next_frame c pr (TotalOf s) i h = ap ATotal (total_kept c pr s i h)

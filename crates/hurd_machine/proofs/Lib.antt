@@ -22,6 +22,7 @@ pub mod Rights
 pub mod Views
 pub mod Settle
 pub mod Frame
+pub mod Spaces
 pub mod Asks
 pub mod BothLaws
 pub mod Confine

@@ -2,7 +2,7 @@
 use Rattle.std.proofs.Common.{if◌then◌else◌, ◌≡◌, ℕ, Bool, true, false, not, is_some, nat_lt, List, [], ◌∷◌, Option, Some, None, refl, sym, ap, ◌∙◌, ◌+◌, inl, true≢false, arith, inr}
 use Rattle.std.specs.Prelude.{Result, Ok, Err}
 use Rattle.std.proofs.lemmas.Bool.Decides.{nat_tests}
-use Rattle.hurd_machine.proofs.Common.{AttrOf, BodyOf, Change, Coherent, EEXIST, EISDIR, ENOTDIR, EOVERFLOW, EROFS, EXDEV, EditBody, EditHeader, EmptyOf, Errno, GoodBehaviour, Header, LeadsUp, Name, Node, Part, Seen, ServerInfo, Sound, World, apply, are_kin, body_at, empty, entry_of, get, home_at, info_at, info_in, is_dir, keeps_tree, link_by, link_in, links_at, most_links, tree_by, with_entry}
+use Rattle.hurd_machine.proofs.Common.{AttrOf, BodyOf, Change, Coherent, EEXIST, EISDIR, ENOSPC, ENOTDIR, EOVERFLOW, EROFS, EXDEV, EditBody, EditHeader, EmptyOf, Errno, GoodBehaviour, Header, LeadsUp, Name, Node, Part, Seen, ServerInfo, Sound, World, apply, are_kin, body_at, empty, entry_of, get, home_at, info_at, info_in, is_dir, keeps_tree, link_by, link_in, links_at, most_links, tree_by, with_entry, counts_for, overfills, space_at}
 use Rattle.hurd_creds.proofs.NameLaws.{equal_if_same}
 use Rattle.hurd_trans_iface.specs.Nodes.{linked}
 use Rattle.hurd_trans_iface.specs.Kinds.{ServerKind, behaviour_of}
@@ -39,11 +39,11 @@ first_tests : (dir grows : Bool) (r : Result (Unit {0}) Errno) (u : Unit {0}) �
 first_tests true true r u h = (refl, refl, h)
 first_tests dir grows r u h = absurd (cc)
 
-last_tests : (kin dir : Bool) (o : Option Name) (free : Bool) (u : Unit {0})
-    → ◌≡◌ {A = Result (Unit {0}) Errno} (if not kin then Err EXDEV else if dir then Err EISDIR else if is_some o then Err EEXIST else if free then Ok tt else Err EOVERFLOW) (Ok u)
+last_tests : (kin dir : Bool) (o : Option Name) (full free : Bool) (u : Unit {0})
+    → ◌≡◌ {A = Result (Unit {0}) Errno} (if not kin then Err EXDEV else if dir then Err EISDIR else if is_some o then Err EEXIST else if full then Err ENOSPC else if free then Ok tt else Err EOVERFLOW) (Ok u)
     → (kin ≡ true) × (dir ≡ false) × (o ≡ None)
-last_tests true false None free u h = (refl, refl, refl)
-last_tests kin dir o free u h = absurd (cc)
+last_tests true false None false free u h = (refl, refl, refl)
+last_tests kin dir o full free u h = absurd (cc)
 
 pub may_link : (w : World) (d : Name) (name : List ℕ) (n : Name) (u : Unit {0}) → links_at w d name n ≡ Ok u → MayLink w d name n
 may_link w d name n u = go (info_at w d) (get w.nodes d) (get w.nodes n) refl refl refl
@@ -51,13 +51,13 @@ may_link w d name n u = go (info_at w d) (get w.nodes d) (get w.nodes n) refl re
     kin : Bool
     kin = are_kin (home_at w d) (home_at w n)
 
-    go : (i : Option ServerInfo) (o p : Option Node) → info_at w d ≡ i → get w.nodes d ≡ o → get w.nodes n ≡ p → link_by name kin i o p ≡ Ok u → MayLink w d name n
+    go : (i : Option ServerInfo) (o p : Option Node) → info_at w d ≡ i → get w.nodes d ≡ o → get w.nodes n ≡ p → link_by name kin i (space_at w d) o p ≡ Ok u → MayLink w d name n
     go None o p is_info at_d at_n h = absurd (cc)
     go (Some i) None p is_info at_d at_n h = absurd (cc)
-    go (Some i) (Some x) None is_info at_d at_n h = let l = first_tests (is_dir x.header.kind) (keeps_tree i.kind) (link_in name kin x None) u h in absurd (cc (l.2))
+    go (Some i) (Some x) None is_info at_d at_n h = let l = first_tests (is_dir x.header.kind) (keeps_tree i.kind) (link_in (space_at w d) name kin x None) u h in absurd (cc (l.2))
     go (Some i) (Some x) (Some y) is_info at_d at_n h =
-        let l = first_tests (is_dir x.header.kind) (keeps_tree i.kind) (link_in name kin x (Some y)) u h in
-        let k = last_tests kin (is_dir y.header.kind) (entry_of name (Some x.body)) (nat_lt y.header.links most_links) u l.2 in
+        let l = first_tests (is_dir x.header.kind) (keeps_tree i.kind) (link_in (space_at w d) name kin x (Some y)) u h in
+        let k = last_tests kin (is_dir y.header.kind) (entry_of name (Some x.body)) (overfills (space_at w d) (counts_for y.header) (counts_for (linked y.header))) (nat_lt y.header.links most_links) u l.2 in
         record {
           node = x;
           is_node = at_d;

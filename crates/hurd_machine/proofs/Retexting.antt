@@ -1,7 +1,7 @@
 -- A server gets another text, and its nodes their sizes, as a piece of any call.
 use Rattle.std.proofs.Common.{◌≡◌, ◌≢◌, arith, length, map, ℕ, Bool, true, false, List, [], ◌∷◌, Option, Some, None, sym, refl, ◌∙◌, ap, subst, inl, inr}
 use Rattle.std.specs.Prelude.{is_some}
-use Rattle.hurd_machine.proofs.Common.{AreFilled, AttrOf, Change, Coherent, IsAmong, IsFilled, Name, NameMap, Node, NodeMap, TextOf, faced, known_text, Part, ServerInfo, SetText, Site, Sound, World, apply_all, changes_of, edit, edit_all, empty, entries, entries-insert, eq_by_cmp, get, get-empty, home_at, home_in, info_in, insert, is_home, list_any, name_cmp, own_nodes, put, retain_keys, retexting, server_at, size_of, sizing, with_header, with_size, with_text, Seen, info_at, tree_by}
+use Rattle.hurd_machine.proofs.Common.{AreFilled, AttrOf, Change, Coherent, IsAmong, IsFilled, Name, NameMap, Node, NodeMap, OptionsOf, TextOf, faced, keeps_tree, known_text, Part, ServerInfo, SetText, Site, Sound, World, apply_all, changes_of, edit, edit_all, empty, entries, entries-insert, eq_by_cmp, get, get-empty, home_at, home_in, info_in, insert, is_home, list_any, name_cmp, own_nodes, put, retain_keys, retexting, server_at, size_of, sizing, sizing_unless, with_header, with_size, with_text, Seen, info_at, tree_by}
 use Rattle.std.specs.Option.{option_map}
 use Rattle.std.specs.FinMap.{keys, contains_key-keys, len-entries, len-empty}
 use Rattle.hurd_nodes.proofs.Sites.{site-of}
@@ -11,6 +11,8 @@ use Rattle.hurd_trans_iface.specs.Meaning.{root_of, targets_of}
 use Rattle.hurd_trans_iface.specs.Good.{KeepsRoot}
 use Rattle.hurd_trans_iface.proofs.BodyLaws.{size_has}
 use Rattle.hurd_machine.specs.World.{nodes_of}
+use Rattle.hurd_trans_iface.specs.Texts.{is_link}
+use Rattle.hurd_machine.proofs.Faces.{lone_untold}
 use Rattle.hurd_machine.proofs.Nodes.{edited_from, server_home}
 use Rattle.hurd_machine.proofs.Sites.{home_is}
 use Rattle.hurd_machine.proofs.Coherence.{AllProper, KeepsShape}
@@ -131,82 +133,131 @@ module _ (w : World) (s : Name) (i : ServerInfo) where
   abbrev own : List Name
   own = own_nodes s w.sites
 
-  -- a text that the server may get: it has its root alone
+  -- a text that the server may get
   abbrev pub MayGet : Option (List ℕ) → Type 0
   MayGet o = (text : List ℕ) → o ≡ Some text → KeepsRoot (behaviour_of i.kind) text
 
-  root_alone : Coherent w → server_at w s ≡ Some i → (text : List ℕ) → MayGet (Some text) → (n : Name) → home_at w n ≡ Some s → n ≡ i.root
-  root_alone c is text keeps n home = c.housing.lone n s i home is (keeps text refl).lone
+  -- where it keeps no tree, it has its root alone
+  root_alone : Coherent w → server_at w s ≡ Some i → keeps_tree i.kind ≡ false → (n : Name) → home_at w n ≡ Some s → n ≡ i.root
+  root_alone c is lone n home = c.housing.lone n s i home is lone
 
-  -- which gets the size that the text says
-  retexts_filled : Coherent w → server_at w s ≡ Some i → (text : List ℕ) → MayGet (Some text) → KeepsFilled w (retexting w s i (Some text))
-  retexts_filled c is text keeps fit = subst (λ (x : World). AreFilled (nodes_of x)) (sym done) now
-    where
-      left : World
-      left = record w { servers = edit s (with_text text) w.servers; nodes = edit_all (sizing (size_of i.kind text) own) w.nodes }
+  module _ (text : List ℕ) where
+    abbrev k : ℕ
+    k = size_of i.kind text
 
-      done : apply_all (retexting w s i (Some text)) w ≡ left
-      done = sizes_done (size_of i.kind text) own (record w { servers = edit s (with_text text) w.servers })
+    -- the changes, where it keeps a tree or doesn't
+    abbrev retexts : Bool → List Change
+    retexts tree = SetText s text ∷ changes_of (sizing_unless tree k own)
 
-      now : AreFilled (nodes_of left)
-      now n x j e ej = let q = server_home (nodes_of left) n j ej in elim (same_or_apart q.0 s) [ inl same ↦ here (q.1 ∙ ap Some same) | inr apart ↦ there q.0 q.1 apart ]
-        where
-          -- a node of this server
-          here : home_at w n ≡ Some s → IsFilled j x
-          here home =
-              let known : Some (with_text text i) ≡ Some j =
-              sym (ap (info_in left.servers) home ∙ edit_here w.servers s (with_text text) ∙ ap (option_map (with_text text)) is) ∙ ej in
-              let same : with_text text i ≡ j = cc in
-              let l = edited_from (sized (size_of i.kind text)) (get w.nodes n) x (sym (sized_here (size_of i.kind text) own w.nodes n (own_here s n w.sites home)) ∙ e) in
-              let old = fit n l.0 i l.1 (ap (info_in w.servers) home ∙ is) in
-              subst (λ (z : ServerInfo). IsFilled z x) same (subst (IsFilled (with_text text i)) l.2 (sym ((keeps text refl).sized l.0.body), old.1, size_has (Some (size_of i.kind text)) i.kind l.0.header old.2))
+    abbrev set : World
+    set = record w { servers = edit s (with_text text) w.servers }
 
-          -- or of another
-          there : (q : Name) → home_at w n ≡ Some q → q ≢ s → IsFilled j x
-          there q home apart =
-              let other : IsAmong n own → ⊥ = λ among. let it : home_at w n ≡ Some s = own_home s n w.sites among in apart (cc (home, it)) in
-              fit n x j (sym (sized_apart (size_of i.kind text) own w.nodes n other) ∙ e)
-              (ap (info_in w.servers) home ∙ sym (edit_apart w.servers s (with_text text) q apart) ∙ sym (ap (info_in left.servers) home) ∙ ej)
+    -- the server is as before, but for its text
+    info_set : (n : Name) → server_at w s ≡ Some i → home_at w n ≡ Some s → info_at set n ≡ Some (with_text text i)
+    info_set n is home = ap (info_in set.servers) home ∙ edit_here w.servers s (with_text text) ∙ ap (option_map (with_text text)) is
 
-  pub retexts_whole : {t : ℕ} {T : Part → Type 0} → Sound w → server_at w s ≡ Some i → (o : Option (List ℕ)) → MayGet o → T (TextOf s) → T (AttrOf i.root) → ((S : ℕ → Bool) → S t ≡ true → Commands S w s) → Whole t T w w (retexting w s i o)
-  retexts_whole {t} {T} st is None keeps options attr commands = whole_none st
-  retexts_whole {t} {T} st is (Some text) keeps options attr commands =
-      let k : ℕ = size_of i.kind text in
-      let set : World = record w { servers = edit s (with_text text) w.servers } in
-      let l = sizes_piece k T own set (λ n among. subst (λ m. T (AttrOf m)) (sym (root_alone st.coherent is text keeps n (own_home s n w.sites among))) attr) (λ n among.
-      ap (λ o. tree_by (info_in set.servers o)) (own_home s n w.sites among) ∙ ap tree_by (edit_here w.servers s (with_text text) ∙ ap (option_map (with_text text)) is) ∙ (keeps text refl).lone) in
-      quiet (retexting w s i (Some text)) (tt, l.2) st (record {
-        within = ((options, unseen), l.0);
-        proper = (fits, λ one. l.1);
-        linked = linked_steady (retexting w s i (Some text)) w (tt, l.3) st.linked;
-        filled = retexts_filled st.coherent is text keeps st.filled;
-        held = held_all (retexting w s i (Some text)) w (tt, l.5) st.settled.opens;
-        may = λ S ours. (
-          tt,
-          l.4 S w (λ n among.
-              inl (subst (Seen S w) (sym (root_alone st.coherent is text keeps n (own_home s n w.sites among))) (sends_root S w s i is (commands_send S w s i is (commands S ours))))),
-        );
+    -- and others are as before
+    info_other : (q n : Name) → home_at w n ≡ Some q → q ≢ s → info_at set n ≡ info_at w n
+    info_other q n home apart = ap (info_in set.servers) home ∙ edit_apart w.servers s (with_text text) q apart ∙ sym (ap (info_in w.servers) home)
+
+    -- a tree's nodes have the sizes that they had
+    tree_filled : server_at w s ≡ Some i → KeepsRoot (behaviour_of i.kind) text → keeps_tree i.kind ≡ true → AreFilled (nodes_of w) → AreFilled (nodes_of set)
+    tree_filled is keeps tree fit n x j e ej = let q = server_home (nodes_of set) n j ej in elim (same_or_apart q.0 s) [
+      | inl same ↦
+          let home : home_at w n ≡ Some s = q.1 ∙ ap Some same in
+          let known : with_text text i ≡ j = cc (info_set n is home, ej) in
+          let old = fit n x i e (ap (info_in w.servers) home ∙ is) in
+          subst (λ (z : ServerInfo). IsFilled z x) known (old.0 ∙ keeps.grown tree i.text x.body, old.1, old.2)
+      | inr apart ↦ fit n x j e (sym (info_other q.0 n q.1 apart) ∙ ej)
+    ]
+
+    -- the root of another server gets the size that the text says
+    lone_filled : server_at w s ≡ Some i → KeepsRoot (behaviour_of i.kind) text → keeps_tree i.kind ≡ false → KeepsFilled w (retexts false)
+    lone_filled is keeps lone fit = subst (λ (x : World). AreFilled (nodes_of x)) (sym (sizes_done k own set)) now
+      where
+        left : World
+        left = record set { nodes = edit_all (sizing k own) w.nodes }
+
+        now : AreFilled (nodes_of left)
+        now n x j e ej = let q = server_home (nodes_of left) n j ej in elim (same_or_apart q.0 s) [ inl same ↦ here (q.1 ∙ ap Some same) | inr apart ↦ there q.0 q.1 apart ]
+          where
+            -- a node of this server
+            here : home_at w n ≡ Some s → IsFilled j x
+            here home =
+                let known : with_text text i ≡ j = cc (info_set n is home, ej) in
+                let l = edited_from (sized k) (get w.nodes n) x (sym (sized_here k own w.nodes n (own_here s n w.sites home)) ∙ e) in
+                let old = fit n l.0 i l.1 (ap (info_in w.servers) home ∙ is) in
+                subst (λ (z : ServerInfo). IsFilled z x) known (subst (IsFilled (with_text text i)) l.2 (sym (keeps.sized lone l.0.body), old.1, size_has (Some k) i.kind l.0.header old.2))
+
+            -- or of another
+            there : (q : Name) → home_at w n ≡ Some q → q ≢ s → IsFilled j x
+            there q home apart =
+                let other : IsAmong n own → ⊥ = λ among. let it : home_at w n ≡ Some s = own_home s n w.sites among in apart (cc (home, it)) in
+                fit n x j (sym (sized_apart k own w.nodes n other) ∙ e) (sym (info_other q n home apart) ∙ ej)
+
+    fits : server_at w s ≡ Some i → KeepsRoot (behaviour_of i.kind) text → KeepsShape w s text
+    fits is keeps j e =
+        let same : i ≡ j = cc (is, e) in
+        subst (λ (z : ServerInfo). (root_of z.kind text ≡ root_of z.kind z.text) × (targets_of z.kind text ≡ targets_of z.kind z.text)) same (sym (keeps.rooted i.text), sym (keeps.aimed i.text))
+
+    -- where it keeps no tree, its readers alone were given the text that it had, and are given this one
+    unseen : server_at w s ≡ Some i → KeepsRoot (behaviour_of i.kind) text → keeps_tree i.kind ≡ false → (j : ServerInfo) → server_at w s ≡ Some j → faced (with_text text j) ≡ faced j
+    unseen is keeps lone j e =
+        let same : i ≡ j = cc (is, e) in
+        let none : known_text i.kind text ≡ [] = lone_untold i.kind text keeps.no_link lone in
+        let before : known_text i.kind i.text ≡ [] = lone_untold i.kind i.text (ap (λ r. is_link r.crossing) (keeps.rooted i.text) ∙ keeps.no_link) lone in
+        let hidden : known_text i.kind text ≡ known_text i.kind i.text = none ∙ sym before in
+        subst (λ (z : ServerInfo). faced (with_text text z) ≡ faced z) same (ap (λ (x : List ℕ). with_text x i) hidden)
+
+    -- of a tree whoever knows it is told the text
+    module _ {t : ℕ} {T : Part → Type 0} (st : Sound w) (is : server_at w s ≡ Some i) (keeps : KeepsRoot (behaviour_of i.kind) text) (told : T (TextOf s)) (commands : (S : ℕ → Bool) → S t ≡ true → Commands S w s) where
+      tree_whole : keeps_tree i.kind ≡ true → T (OptionsOf s) → Whole t T w w (retexts true)
+      tree_whole tree options = quiet (retexts true) (tt, tt) st (record {
+        within = ((told, inr options), tt);
+        proper = (fits is keeps, λ one. tt);
+        linked = linked_steady (retexts true) w (tt, tt) st.linked;
+        filled = tree_filled is keeps tree st.filled;
+        held = held_all (retexts true) w (tt, tt) st.settled.opens;
+        may = λ S ours. (commands S ours, tt);
       })
-    where
-      -- its readers alone were given the text that it had, and are given this one
-      unseen : (j : ServerInfo) → server_at w s ≡ Some j → faced (with_text text j) ≡ faced j
-      unseen j e =
-          let same : i ≡ j = cc (is, e) in
-          let k = keeps text refl in
-          let hidden : known_text i.kind text ≡ known_text i.kind i.text = rw (k.rooted i.text, k.no_link) refl in
-          subst (λ (z : ServerInfo). faced (with_text text z) ≡ faced z) same (ap (λ (x : List ℕ). with_text x i) hidden)
 
-      fits : KeepsShape w s text
-      fits j e =
-          let same : i ≡ j = cc (is, e) in
-          let k = keeps text refl in
-          subst (λ (z : ServerInfo). (root_of z.kind text ≡ root_of z.kind z.text) × (targets_of z.kind text ≡ targets_of z.kind z.text)) same (sym (k.rooted i.text), sym (k.aimed i.text))
+      lone_whole : keeps_tree i.kind ≡ false → T (AttrOf i.root) → Whole t T w w (retexts false)
+      lone_whole lone attr =
+          let alone : (n : Name) → IsAmong n own → n ≡ i.root = λ n among. root_alone st.coherent is lone n (own_home s n w.sites among) in
+          let l = sizes_piece k T own set (λ n among. subst (λ m. T (AttrOf m)) (sym (alone n among)) attr) (λ n among. ap tree_by (info_set n is (own_home s n w.sites among)) ∙ lone) in
+          quiet (retexts false) (tt, l.2) st (record {
+            within = ((told, inl (unseen is keeps lone)), l.0);
+            proper = (fits is keeps, λ one. l.1);
+            linked = linked_steady (retexts false) w (tt, l.3) st.linked;
+            filled = lone_filled is keeps lone st.filled;
+            held = held_all (retexts false) w (tt, l.5) st.settled.opens;
+            may = λ S ours. (
+              commands S ours,
+              l.4 S w (λ n among. inl (subst (Seen S w) (sym (alone n among)) (sends_root S w s i is (commands_send S w s i is (commands S ours))))),
+            );
+          })
+
+  -- it writes the text, and of a tree what whoever knows it is told, of any other server the size of its root
+  pub retexts_whole : {t : ℕ} {T : Part → Type 0} → Sound w → server_at w s ≡ Some i → (o : Option (List ℕ)) → MayGet o → T (TextOf s) → (keeps_tree i.kind ≡ true → T (OptionsOf s)) → (keeps_tree i.kind ≡ false → T (AttrOf i.root))
+      → ((S : ℕ → Bool) → S t ≡ true → Commands S w s) → Whole t T w w (retexting w s i o)
+  retexts_whole {t} {T} st is None keeps told options attr commands = whole_none st
+  retexts_whole {t} {T} st is (Some text) keeps told options attr commands = by (keeps_tree i.kind) refl
+    where
+      by : (tree : Bool) → keeps_tree i.kind ≡ tree → Whole t T w w (retexts text tree)
+      by true tree = tree_whole text st is (keeps text refl) told commands tree (options tree)
+      by false lone = lone_whole text st is (keeps text refl) told commands lone (attr lone)
 
 -- in two worlds where it is known as the same server the piece is the same
-pub retexts_same : (v w : World) → Coherent v → Coherent w → (s : Name) (i : ServerInfo) → server_at v s ≡ Some i → server_at w s ≡ Some i → (o : Option (List ℕ)) → MayGet v s i o → retexting w s i o ≡ retexting v s i o
-retexts_same v w cv cw s i in_v in_w None keeps = refl
-retexts_same v w cv cw s i in_v in_w (Some text) keeps =
-    ap retexted_by (own_one s i.root w.sites (cw.housing.roots s i in_w) (root_alone w s i cw in_w text keeps) ∙ sym (own_one s i.root v.sites (cv.housing.roots s i in_v) (root_alone v s i cv in_v text keeps)))
+pub retexts_same : (v w : World) → Coherent v → Coherent w → (s : Name) (i : ServerInfo) → server_at v s ≡ Some i → server_at w s ≡ Some i → (o : Option (List ℕ)) → retexting w s i o ≡ retexting v s i o
+retexts_same v w cv cw s i in_v in_w None = refl
+retexts_same v w cv cw s i in_v in_w (Some text) = by (keeps_tree i.kind) refl
   where
     retexted_by : List Name → List Change
     retexted_by ns = SetText s text ∷ changes_of (sizing (size_of i.kind text) ns)
+
+    by : (tree : Bool) → keeps_tree i.kind ≡ tree
+        → ◌≡◌ {A = List Change} (SetText s text ∷ changes_of (sizing_unless tree (size_of i.kind text) (own_nodes s w.sites))) (SetText s text ∷ changes_of (sizing_unless tree (size_of i.kind text) (own_nodes s v.sites)))
+    by true tree = refl
+    by false lone =
+        ap retexted_by
+        (own_one s i.root w.sites (cw.housing.roots s i in_w) (root_alone w s i cw in_w lone) ∙ sym (own_one s i.root v.sites (cv.housing.roots s i in_v) (root_alone v s i cv in_v lone)))

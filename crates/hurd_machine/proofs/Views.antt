@@ -1,9 +1,10 @@
 -- What a set of tasks sees is settled by the parts that it sees: where those are the same in two worlds, it sees the same
 -- parts in both.
 use Rattle.std.proofs.Common.{List, ◌≡◌, inl, inr, ℕ, Bool, true, Some, sym, refl, ◌∙◌, ap, length, Option, None}
-use Rattle.hurd_machine.proofs.Common.{Active, Allowed, AttrOf, BodyOf, ByBody, ByControl, ByNode, ByParent, BySeat, Child, Control, Could, CouldServe, EmptyOf, Exec, GidOfRight, GidOfTask, HasGid, HasUid, Header, Holds, IdSets, Io, IoRight, IsOpen, Knows, Name, OfControl, OfNode, OfSeat, OpenOf, OptionsOf, Owns, Part, Pending, Read, Right, SameView, Seen, Sees, SeesBody, SeesEmpty, Sends, ServerInfo, ServerRoot, Start, Taken, Target, TaskOf, SeesText, TextOf, InRoot, ToControl, with_text, ToPut, ToRead, ToSearch, UidOfRight, UidOfTask, UsersOf, Want, Way, World, Write, active_at, body_at, counts_at, counts_by, entry_of, header_at, home_at, info_in, open_at, part, server_at, task_at, tells, EndsOf, SeesInside, TotalOf}
+use Rattle.hurd_machine.proofs.Common.{Active, Allowed, AttrOf, BodyOf, ByBody, ByControl, ByNode, ByParent, BySeat, Child, Control, Could, CouldServe, EmptyOf, Exec, GidOfRight, GidOfTask, HasGid, HasUid, Header, Holds, IdSets, Io, IoRight, IsOpen, Knows, Name, OfControl, OfNode, OfSeat, OpenOf, OptionsOf, Owns, Part, Pending, Read, Right, SameView, Seen, Sees, SeesBody, SeesEmpty, Sends, ServerInfo, ServerRoot, Start, Taken, Target, TaskOf, SeesText, TextOf, InRoot, ToControl, with_text, ToPut, ToRead, ToSearch, UidOfRight, UidOfTask, UsersOf, Want, Way, World, Write, active_at, body_at, counts_at, counts_by, entry_of, header_at, home_at, info_in, open_at, part, server_at, task_at, tells, EndsOf, SeesInside, TotalOf, limit_by, limit_of}
 use Rattle.hurd_machine.specs.Sight.{Root, Held, Controlled, Parent}
-use Rattle.hurd_machine.proofs.Faces.{face_in, face_reads, of_face, none_faced, reads_same, whole}
+use Rattle.std.specs.Prelude.{is_some}
+use Rattle.hurd_machine.proofs.Faces.{face_in, face_reads, limit_told, of_face, none_faced, reads_same, whole}
 
 -- a server that S may send away it knows
 pub knows_of : (S : ℕ → Bool) (w : World) (s : Name) (i : ServerInfo) → Sends S w s i → Knows S w s
@@ -71,6 +72,10 @@ module _ (S : ℕ → Bool) (v w : World) (tasks : SameTasks S v w) (equal : (p 
   -- a server that is known is there, but for its text
   server_moved : {s : Name} {i : ServerInfo} → Knows S v s → Knows S w s → server_at v s ≡ Some i → (text : List ℕ) × (server_at w s ≡ Some (with_text text i))
   server_moved {s} {i} k k' e = of_face i (server_at w s) (face_moved k k' ∙ ap face_in e)
+
+  -- and has the limit that it had
+  limit_moved : {s : Name} {i : ServerInfo} (text : List ℕ) → Knows S v s → Knows S w s → server_at v s ≡ Some i → server_at w s ≡ Some (with_text text i) → limit_of i.kind text ≡ limit_of i.kind i.text
+  limit_moved {s} {i} text k k' was is = sym (ap limit_by is) ∙ face_reads limit_by (λ j. limit_told j.kind j.text) (server_at v s) (server_at w s) (face_moved k k') ∙ ap limit_by was
 
   Seen-moved : (n : Name) → Seen S v n → Seen S w n
   Seen-moved n (Root e) = Root e
@@ -163,9 +168,16 @@ module _ (S : ℕ → Bool) (v w : World) (tasks : SameTasks S v w) (equal : (p 
       let m = server_moved known (Knows-moved q known) s.is_server in
       record { info = with_text m.0 s.info; is_server = m.1; other = s.other; why = Sends-moved q s.info m.0 s.why }
   Sees-moved (TotalOf q) s =
-      let known = knows_of S v q s.info s.why in
-      let m = server_moved known (Knows-moved q known) s.is_server in
-      record { info = with_text m.0 s.info; is_server = m.1; tree = s.tree; why = Sends-moved q s.info m.0 s.why }
+      let knows = Knows-moved q s.knows in
+      let m = server_moved s.knows knows s.is_server in
+      let limit = limit_moved m.0 s.knows knows s.is_server m.1 in
+      record {
+        info = with_text m.0 s.info;
+        is_server = m.1;
+        knows = knows;
+        tree = s.tree;
+        why = elim s.why [ inl limited ↦ inl (ap (λ (o : Option ℕ). is_some o) limit ∙ limited) | inr sends ↦ inr (Sends-moved q s.info m.0 sends) ];
+      }
   Sees-moved (TaskOf t) s = s
 
 module _ {S : ℕ → Bool} {v w : World} (a : Agree S v w) where

@@ -1,5 +1,5 @@
 -- Whom a set of tasks may act for, which nodes it sees, and which parts of a world.
-use Rattle.std.specs.Prelude.{◌≡◌, ◌≢◌, ◌⊎◌, ◌↔◌, ◌&&◌, ◌||◌, ℕ, Bool, true, false, List, Option, Some, None, length}
+use Rattle.std.specs.Prelude.{◌≡◌, ◌≢◌, ◌⊎◌, ◌↔◌, ◌&&◌, ◌||◌, ℕ, Bool, true, false, List, Option, Some, None, is_some, length}
 use Rattle.std.specs.Option.{option_map}
 use Rattle.hurd_creds.specs.declared.name.Name.{Name}
 use Rattle.hurd_creds.specs.declared.attrs.Kind.TheVariants.{Dir}
@@ -11,7 +11,7 @@ use Rattle.hurd_creds.specs.Access.{IdSets, holds_uid, holds_gid, may}
 use Rattle.hurd_creds.specs.Bits.{asks, READ, WRITE}
 use Rattle.hurd_trans_iface.specs.Nodes.{Header, Body, attrs_with, is_empty_dir}
 use Rattle.hurd_trans_iface.specs.Answers.{entry_of}
-use Rattle.hurd_trans_iface.specs.Meaning.{ServerKind, keeps_tree, root_of}
+use Rattle.hurd_trans_iface.specs.Meaning.{ServerKind, keeps_tree, limit_of, root_of}
 use Rattle.hurd_trans_iface.specs.Texts.{reads_text, told_text}
 use Rattle.hurd_nodes.specs.declared.seat.Site.{Site}
 use Rattle.hurd_creds.specs.NameMaps.{NameMap}
@@ -113,12 +113,13 @@ pub data Knows (S : ℕ → Bool) (w : World) (s : Name) : Type 0 where
   OfSeat : (n : Name) → Seen S w n → active_at w n ≡ Some s → Knows S w s
   OfControl : Holds S w (Control s) → Knows S w s
 
--- why S sees the total of a server: the server keeps a tree, and S may send it away
+-- why S sees the total of a server: it knows the server, which keeps a tree, and that has a limit, or S may set one
 pub record SeesTotal (S : ℕ → Bool) (w : World) (s : Name) : Type 0 where
   pub info : ServerInfo
   pub is_server : server_at w s ≡ Some info
+  pub knows : Knows S w s
   pub tree : keeps_tree info.kind ≡ true
-  pub why : Sends S w s info
+  pub why : (is_some (limit_of info.kind info.text) ≡ true) ⊎ Sends S w s info
 
 -- the parts of a world
 pub data Part : Type 0 where
@@ -127,7 +128,7 @@ pub data Part : Type 0 where
   BodyOf : Name → Part  -- a node's bytes or entries
   EndsOf : Name → Part  -- how many opens read a node, and how many write it, where its server is told
   OpenOf : Name → Part  -- an open, and how many rights hold it
-  OptionsOf : Name → Part  -- a server, but for its text, unless that is a link's
+  OptionsOf : Name → Part  -- a server, but for its text, unless that is a link's or a tree's
   TextOf : Name → Part  -- the text of a server
   UsersOf : Name → Part  -- how many rights there are on a server's nodes
   TotalOf : Name → Part  -- what the files of a server that entries name have in all
@@ -191,11 +192,11 @@ holders w o = count_rights (names_open o) w.tasks
 abbrev pub users : World → Name → ℕ
 users w s = count_rights (is_on w s) w.tasks
 
--- the text that whoever knows a server of this kind is told: a link's alone
+-- the text that whoever knows a server of this kind is told: a link's, and a tree's, which is its limit
 abbrev pub known_text : ServerKind → List ℕ → List ℕ
 known_text k text = told_text (root_of k text) text
 
--- a server as whoever knows it sees it: without its text, unless that is a link's
+-- a server as whoever knows it sees it: without its text, unless that is a link's or a tree's
 abbrev pub faced : ServerInfo → ServerInfo
 faced i = with_text (known_text i.kind i.text) i
 

@@ -17,7 +17,7 @@ use Rattle.hurd_trans_iface.specs.Meaning.{root_of}
 use Rattle.hurd_nodes.specs.declared.seat.Site.{Site}
 use Rattle.hurd_nodes.specs.Held.{active_in, home_in}
 use Rattle.hurd_nodes.specs.Needs.{counts_by, streams_by}
-use Rattle.hurd_nodes.specs.Shown.{NodeState, ServerInfo, boot_name, is_root, server_of, effect_at, readable_at as readable_of, can_make, can_link, can_unlink, can_rename, can_set_attrs}
+use Rattle.hurd_nodes.specs.Shown.{NodeState, ServerInfo, boot_name, is_root, server_of, space_at as space_of, effect_at, readable_at as readable_of, can_make, can_link, can_unlink, can_rename, can_set_attrs}
 use Rattle.hurd_nodes.specs.Totals.{total_of}
 use Rattle.hurd_ports.specs.declared.table.Opened.{Opened}
 use Rattle.hurd_ports.specs.declared.table.Ends.{Ends}
@@ -137,6 +137,10 @@ is_removed w d h = not (is_server_root w d) && not (is_some h.parent)
 -- what the files of a server that entries name have in all, if it is there and keeps a tree
 abbrev pub total_at : World → Name → Option ℕ
 total_at w s = total_of (nodes_of w) s
+
+-- how much more the files of a node's server may have in all, if that is limited
+abbrev pub space_at : World → Name → Option ℕ
+space_at w n = space_of (nodes_of w) n
 
 -- what a node's server answers of it, and does to it
 abbrev pub asked_at : {T : Type 0} → Question T → Name → World → Effect T
