@@ -165,6 +165,7 @@ function offset() { return often(70) ? -1 : one("0 1 2 7 100 1000 -2") }
 function server(kind) {
     kind = one("tmpfs tmpfs tmpfs hello hello null zero symlink firmlink magic drip fifo union")
     if (kind == "hello" && often(60)) return " =/hurd/hello =--contents=" text()
+    if (kind == "tmpfs" && often(50)) return " =/hurd/tmpfs =--size=" one("0 1 3 5 9 20 100")
     if (kind == "symlink") return " =/hurd/symlink =" one("t /t f0 t/f1 . /none")
     if (kind == "firmlink") return " =/hurd/firmlink =" aim()
     if (kind == "magic") return " =/hurd/magic =fd"
@@ -269,7 +270,7 @@ function server_call(verb, p) {
     } else if (verb == "fsys_getroot") gain(verb " " p " " port("de") " " one("- READ READ READ NOTRANS,CREATE,EXCL"), on_it[place[who, p]] ~ /tmpfs|union/ ? "e" : "r", "")
     else if (verb == "fsys_goaway") say(verb " " p " " one("- FORCE NOSYNC,NOWAIT"))
     else if (verb == "fsys_get_options") say(verb " " p)
-    else if (verb == "fsys_set_options") say(verb " " p (on_it[place[who, p]] ~ /hello/ || often(10) ? " =--contents=" text() : ""))
+    else if (verb == "fsys_set_options") say(verb " " p (on_it[place[who, p]] ~ /hello/ || often(10) ? " =--contents=" text() : on_it[place[who, p]] ~ /tmpfs/ || often(10) ? " =--size=" one("0 2 4 8 30") : ""))
     else return 0
     return 1
 }

@@ -57,7 +57,7 @@ function act(action, path, other) {
     else if (action == "chmod") { path = often(30) ? directory() : old(); line(who " chmod " one("700 711 733 755 777 600 644 1777") " " path) }
     else if (action == "chown") { path = often(20) ? directory() : old(); other = ids(); line(who " chown " other " " path) }
     else if (action == "settrans") translate()
-    else if (action == "fsysopts" && often(40)) { path = old(); line(who " fsysopts " path " --contents=" text()) }
+    else if (action == "fsysopts" && often(60)) { path = old(); line(who " fsysopts " path (often(60) ? " --contents=" text() : " --size=" size())) }
     else {
         path = old()
         if (action ~ /^rm/) forget(path)
@@ -77,6 +77,7 @@ function translate(flags, path, words) {
 function server(kind) {
     kind = one("hello hello hello null zero tmpfs tmpfs tmpfs symlink symlink symlink firmlink firmlink union drip fifo magic")
     if (kind == "hello" && often(60)) return " /hurd/hello --contents=" text()
+    if (kind == "tmpfs" && often(60)) return " /hurd/tmpfs --size=" size()
     if (kind == "symlink") return " /hurd/symlink " old()
     if (kind == "firmlink") return " /hurd/firmlink " (often(50) ? old() : directory())
     if (kind == "drip") return " /hurd/drip " one("0 1 3 20")
@@ -84,6 +85,9 @@ function server(kind) {
     if (kind == "union") return " /hurd/union " directory() " " directory()
     return " /hurd/" kind
 }
+
+# a limit for a tree: some texts fit
+function size() { return one("0 1 3 4 6 9 12 20 50") }
 
 # where somebody is at home: carol lives in the box
 function home() { return who == "carol" ? "/box" : "/home/" who }
