@@ -139,8 +139,8 @@ pub record IsFileOf (w : World) (s n : Name) (h : Header) : Type 0 where
   pub is_header : header_at w n ≡ Some h
   pub file : is_dir h.kind ≡ false
 
--- why what the files of a server that entries name have in all may: S writes one of them, gives a file its first name, takes its last
--- one out, or may send the server away
+-- why what a server's files that entries name have in all may: S writes one of them, gives one its first name, takes its last one out,
+-- or may send the server away
 pub data MayTotal (S : ℕ → Bool) (w : World) (s : Name) : Type 0 where
   BySize : (n : Name) (h : Header) → IsFileOf w s n h → 0 < h.links → HasOpen S w n WRITE → MayTotal S w s
   ByFirst : (n : Name) (h : Header) → IsFileOf w s n h → h.links ≡ 0 → MayName S w n → MayTotal S w s
