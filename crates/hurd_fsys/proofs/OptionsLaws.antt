@@ -60,13 +60,13 @@ module _ (t c : ℕ) (words : List (List ℕ)) where
   gets_same {S} {v} {w} cv cw a ours s is b takes =
       let k = taking v s b takes in
       ap (λ cs. let p : Plan = record { reply = Done; changes = cs } in p)
-      (retexts_same v w cv cw s b.0 k.is_server (known a ours s is ∙ k.is_server) b.1 (may_get v s b k))
+      (retexts_same v w cv cw s b.0 k.is_server (known a ours s is ∙ k.is_server) b.1)
 
   pub set_options_laws : CallLaws t (λ w. plan_set_options w t c words) (λ w. touches_set_options w t c words)
   set_options_laws = record {
     piece = λ w x. answered_piece x (control_of (ports_of w) t c) _ _ (λ s is. answered_piece x (asks w s) _ _ (λ b takes.
         let k = taking w s b takes in
-        retexts_whole w s b.0 x k.is_server b.1 (may_get w s b k) (inl (inl refl)) (inl (inr refl)) (λ S ours. inl (holds_right t ours c (Control s) (control_is w t c s is)))));
+        retexts_whole w s b.0 x k.is_server b.1 (may_get w s b k) (inl (inl refl)) (λ kept. inl (inr (inl (kept, refl)))) (λ lone. inl (inr (inr (lone, refl)))) (λ S ours. inl (holds_right t ours c (Control s) (control_is w t c s is)))));
     same = λ S v w x y a ours. answered_same _ _ _ _ (control_same a t ours c) (λ s is.
         answered_same _ _ _ _ (ap (takes_options words) (known a ours s is)) (λ b takes. gets_same x y a ours s is b takes));
     plain = λ w. answered_plain _ _ (control_plain w t c) (λ s is. answered_plain _ _ (asks_plain w s) (λ b takes. done_plain Done refl));

@@ -100,9 +100,9 @@ touches_get_options w t c = Nothing
 abbrev pub plan_set_options : World → ℕ → ℕ → List (List ℕ) → Plan
 plan_set_options w t c words = answered (control_of (ports_of w) t c) (λ s. plan_options w s words)
 
--- the server's text, which whoever knows a tree is told, and its root's attributes
+-- the server's text; of a tree, that it is told to whoever knows the tree, of any other server its root's attributes
 abbrev pub options_parts : Name → ServerInfo → Part → Type 0
-options_parts s i p = (p ≡ TextOf s) ⊎ ((p ≡ AttrOf i.root) ⊎ ((keeps_tree i.kind ≡ true) × (p ≡ OptionsOf s)))
+options_parts s i p = (p ≡ TextOf s) ⊎ (((keeps_tree i.kind ≡ true) × (p ≡ OptionsOf s)) ⊎ ((keeps_tree i.kind ≡ false) × (p ≡ AttrOf i.root)))
 
 abbrev pub touches_set_options : World → ℕ → ℕ → List (List ℕ) → Part → Type 0
 touches_set_options w t c words =

@@ -118,7 +118,7 @@ pub record TakesLess (S : ℕ → Bool) (v x : World) : Type 0 where
   pub tasks : (q : ℕ) (y : Task) → S q ≡ true → task_at x q ≡ Some y → Taken S v y.ids
   pub rights : (r : IoRight) → Holds S x (Io r) → Taken S v r.ids
 
--- a server that was, but for its text, which is another only where S commands it; or a new one of S, with its root, which aims at nothing beyond what S saw or made
+-- a server that was, but for its text, which is another only where S commands it. Or it is a new one of S, with its root, and aims at nothing beyond what S saw or made
 abbrev pub ServerInside : (ℕ → Bool) → World → Name → ServerInfo → Type 0
 ServerInside S v s i = ((text : List ℕ) × (server_at v s ≡ Some (with_text text i)) × ((text ≡ i.text) ⊎ Commands S v s)) ⊎ (NewTo S v s × NewTo S v i.root × ((n : Name) → IsAmong n i.targets → SeenOrNew S v n))
 

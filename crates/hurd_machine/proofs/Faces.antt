@@ -23,16 +23,16 @@ reads_same k old new = (good k).guards.reads_alike old new
 
 -- the text of a tree is seen, and that of no other server but a link
 
-told_or : (link tree : Bool) (text : List ℕ) → tree ≡ true → (if link || tree then text else []) ≡ text
-told_or true tree text is = refl
-told_or false tree text is = rw is refl
+told_or : (link keeps : Bool) (text : List ℕ) → keeps ≡ true → (if link || keeps then text else []) ≡ text
+told_or true keeps text is = refl
+told_or false keeps text is = rw is refl
 
-pub tree_told : (k : ServerKind) (text : List ℕ) → keeps_tree k ≡ true → known_text k text ≡ text
+tree_told : (k : ServerKind) (text : List ℕ) → keeps_tree k ≡ true → known_text k text ≡ text
 tree_told k text tree = told_or (is_link (root_of k text).crossing) (is_tree (root_of k text)) text ((good k).rooted text ∙ tree)
 
-untold_or : (link tree : Bool) (text : List ℕ) → link ≡ false → tree ≡ false → (if link || tree then text else []) ≡ []
+untold_or : (link keeps : Bool) (text : List ℕ) → link ≡ false → keeps ≡ false → (if link || keeps then text else []) ≡ []
 untold_or false false text no_link lone = refl
-untold_or link tree text no_link lone = absurd (cc)
+untold_or link keeps text no_link lone = absurd (cc)
 
 pub lone_untold : (k : ServerKind) (text : List ℕ) → is_link (root_of k text).crossing ≡ false → keeps_tree k ≡ false → known_text k text ≡ []
 lone_untold k text no_link lone = untold_or (is_link (root_of k text).crossing) (is_tree (root_of k text)) text no_link ((good k).rooted text ∙ lone)

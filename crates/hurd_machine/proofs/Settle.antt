@@ -25,7 +25,7 @@ use Rattle.hurd_machine.proofs.Swept.{root_stays, boot_stays, entry_stays, paren
 use Rattle.hurd_machine.proofs.Coherence.{was, entry_lists, home_server}
 use Rattle.hurd_machine.proofs.Texts.{server_was, held_yet, stays_kept}
 use Rattle.hurd_machine.proofs.Rights.{port_keeps, port_has}
-use Rattle.hurd_machine.proofs.Views.{Agree, Agree-refl, Agree-trans, knows_of, text_known}
+use Rattle.hurd_machine.proofs.Views.{Agree, Agree-refl, Agree-trans, text_known}
 use Rattle.hurd_machine.proofs.Faces.{face_in, text_in}
 use Rattle.hurd_machine.proofs.ServerParts.{users_by}
 use Rattle.hurd_machine.proofs.Totals.{total_swept, unentered_none, own_total}
@@ -126,7 +126,7 @@ module _ (S : ℕ → Bool) (w : World) (c : Coherent w) (l : Linked (nodes_of w
       same (OptionsOf q) s = ap (λ o. AnOptions (face_in o)) (retained w.servers (server_stays w) q (known_lives q s))
       same (TextOf q) s = ap (λ o. AText (text_in o)) (retained w.servers (server_stays w) q (known_lives q (text_known S w q s.0 s.2)))
       same (UsersOf q) s = ap AUsers (users_still w c q)
-      same (TotalOf q) s = let lives = known_lives q (knows_of S w q s.info s.why) in ap ATotal (total_after w q (retained w.servers (server_stays w) q lives) lives)
+      same (TotalOf q) s = let lives = known_lives q s.knows in ap ATotal (total_after w q (retained w.servers (server_stays w) q lives) lives)
       same (TaskOf t) s = refl
 
 -- who sees a world sees the same once it is settled

@@ -24,7 +24,7 @@ effect_fits (Some k) h (Err e) d is = absurd (cc)
 effect_fits (Some k) h (Ok x) d is = if_ok (overfills (Some k) (counts_for h) (counts_for (size_left x.size h))) (Ok x) d is
 
 -- only a server of a tree has a limit
-pub limit_tree : (k : ServerKind) (text : List ℕ) (most : ℕ) → limit_of k text ≡ Some most → keeps_tree k ≡ true
+limit_tree : (k : ServerKind) (text : List ℕ) (most : ℕ) → limit_of k text ≡ Some most → keeps_tree k ≡ true
 limit_tree k text most e = elim (cases_Bool (keeps_tree k)) [
   | inl tree ↦ tree
   | inr lone ↦ let none : limit_of k text ≡ None = (good k).unlimited lone text in absurd (cc (none, e))

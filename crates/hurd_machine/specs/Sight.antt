@@ -113,7 +113,7 @@ pub data Knows (S : ℕ → Bool) (w : World) (s : Name) : Type 0 where
   OfSeat : (n : Name) → Seen S w n → active_at w n ≡ Some s → Knows S w s
   OfControl : Holds S w (Control s) → Knows S w s
 
--- why S sees the total of a server: it knows the server, which keeps a tree, and that has a limit, or S may set one
+-- why S sees the total of a tree: it knows the server, and there is a limit, or S may set one
 pub record SeesTotal (S : ℕ → Bool) (w : World) (s : Name) : Type 0 where
   pub info : ServerInfo
   pub is_server : server_at w s ≡ Some info
