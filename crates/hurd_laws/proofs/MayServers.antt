@@ -75,8 +75,8 @@ set_options_may t c words S w s ours q = parts_may (control_of (ports_of w) t c)
     elim on [
       | inl e ↦ may_at S w q (TextOf n) e (inl held)
       | inr o ↦ elim o [
-        | inl e ↦ may_at S w q (AttrOf a.0.root) e (Sized (RootOf n a.0 held server refl))
-        | inr tree ↦ may_at S w q (OptionsOf n) tree.1 (inr (held, ap tree_by server ∙ tree.0))
+        | inl tree ↦ may_at S w q (OptionsOf n) tree.1 (inr (held, ap tree_by server ∙ tree.0))
+        | inr lone ↦ may_at S w q (AttrOf a.0.root) lone.1 (Sized (RootOf n a.0 held server lone.0 refl))
       ]
     ]))
 

@@ -178,7 +178,7 @@ module _ (S : ℕ → Bool) (w : World) where
       by : (o : Option (List ℕ)) → Reasons S w (retexting w s a.0 o)
       by None = none
       by (Some text) =
-          cons tt (sizes_unless (keeps_tree a.0.kind) (size_of a.0.kind text) (own_nodes s w.sites) (λ lone m among. RootOf s a.0 held server (co.housing.lone m s a.0 (own_home s m w.sites among) server lone)))
+          cons tt (sizes_unless (keeps_tree a.0.kind) (size_of a.0.kind text) (own_nodes s w.sites) (λ lone m among. RootOf s a.0 held server lone (co.housing.lone m s a.0 (own_home s m w.sites among) server lone)))
 
   -- by a task of S
   module _ (co : Coherent w) (t : ℕ) (ours : S t ≡ true) where

@@ -7,6 +7,7 @@ use Rattle.hurd_creds.specs.Access.{IdSets, may, owns}
 use Rattle.hurd_creds.specs.Bits.{asks, READ, WRITE}
 use Rattle.hurd_trans_iface.specs.Nodes.{Body, Header, is_dir}
 use Rattle.hurd_trans_iface.specs.Answers.{entry_of}
+use Rattle.hurd_trans_iface.specs.Meaning.{keeps_tree}
 use Rattle.hurd_nodes.specs.Shown.{ServerInfo, boot_name, tree_by}
 use Rattle.hurd_ports.specs.declared.table.Opened.{Opened}
 use Rattle.hurd_ports.specs.declared.table.IoRight.{IoRight}
@@ -79,11 +80,11 @@ pub data Rules (S : ℕ → Bool) (w : World) (s : Name) : Type 0 where
   ByControl : Holds S w (Control s) → s ≢ boot_name → Rules S w s
   BySeat : (n : Name) → active_at w n ≡ Some s → Owns S w n → Rules S w s
 
--- why the size of a node may change: S writes it, or drains it, or gives its server another text
+-- why the size of a node may change: S writes it, or drains it, or gives its server another text, where that keeps no tree
 pub data MaySize (S : ℕ → Bool) (w : World) (n : Name) : Type 0 where
   Written : HasOpen S w n WRITE → MaySize S w n
   Drained : HasOpen S w n READ → stream_at w n ≡ true → MaySize S w n
-  RootOf : (s : Name) (i : ServerInfo) → Holds S w (Control s) → server_at w s ≡ Some i → n ≡ i.root → MaySize S w n
+  RootOf : (s : Name) (i : ServerInfo) → Holds S w (Control s) → server_at w s ≡ Some i → keeps_tree i.kind ≡ false → n ≡ i.root → MaySize S w n
 
 -- S may name the node n in a directory: it holds a right to use n, and may enter that directory
 pub record MayName (S : ℕ → Bool) (w : World) (n : Name) : Type 0 where
