@@ -1,7 +1,7 @@
 -- What options make of a server is what the machine's changes make of the world.
 use Rattle.std.proofs.Common.{◌≡◌, ◌∙◌, ℕ, Bool, true, false, cond, List, [], ◌∷◌, Option, Some, None, refl, sym, ap, subst, true≢false, inl, inr}
 use Rattle.std.specs.Prelude.{Result, Ok, Err}
-use Rattle.hurd_machine.proofs.Common.{Errno, Name, NodeState, OnHeader, Plan, Planned, PortState, Reply, ServerInfo, Steps, World, apply_all, changes_of, edit, get, is_no_memory, own_nodes, retexting, size_of, sizing, takes_options, told, with_edits, with_size, with_text, world_from}
+use Rattle.hurd_machine.proofs.Common.{Errno, Name, NodeState, OnHeader, Plan, Planned, PortState, Reply, ServerInfo, Steps, World, apply_all, changes_of, edit, get, is_no_memory, keeps_tree, own_nodes, retexting, size_of, sizing, sizing_unless, takes_options, told, with_edits, with_size, with_text, world_from}
 use Rattle.hurd_nodes.specs.Shown.{retexted, retexted_if, set_options_at}
 use Rattle.hurd_machine.specs.declared.call.Reply.TheVariants.{Done}
 use Rattle.hurd_machine.specs.Plan.{Follows}
@@ -16,6 +16,11 @@ cond_one false x = refl
 sized : (H : PortState) (k : ℕ) (ns : List Name) (N : NodeState) → world_from (with_edits (sizing k ns) N) H ≡ apply_all (changes_of (sizing k ns)) (world_from N H)
 sized H k [] N = refl
 sized H k (n ∷ ns) N = sized H k ns (with_edits (OnHeader n (with_size k) ∷ []) N)
+
+-- or don't, where their server keeps a tree
+sized_unless : (H : PortState) (kept : Bool) (k : ℕ) (ns : List Name) (N : NodeState) → world_from (with_edits (sizing_unless kept k ns) N) H ≡ apply_all (changes_of (sizing_unless kept k ns)) (world_from N H)
+sized_unless H true k ns N = refl
+sized_unless H false k ns N = sized H k ns N
 
 module _ (N : NodeState) (H : PortState) (s : Name) (words : List (List ℕ)) where
   abbrev w : World
@@ -32,7 +37,7 @@ module _ (N : NodeState) (H : PortState) (s : Name) (words : List (List ℕ)) wh
 
   retexted_world : (i : ServerInfo) (o : Option (List ℕ)) → world_from (retexted s i o N) H ≡ apply_all (retexting w s i o) w
   retexted_world i None = refl
-  retexted_world i (Some text) = sized H (size_of i.kind text) (own_nodes s N.sites) (record N { servers = edit s (with_text text) N.servers })
+  retexted_world i (Some text) = sized_unless H (keeps_tree i.kind) (size_of i.kind text) (own_nodes s N.sites) (record N { servers = edit s (with_text text) N.servers })
 
   planned_by : (a : Result (ServerInfo × Option (List ℕ)) Errno) → asks ≡ a → (r : Result (Unit {0}) Errno) (M : NodeState) → Steps N (retexted_if s a N) r M
       → Planned w (plan_options w s words) tells r (world_from M H)

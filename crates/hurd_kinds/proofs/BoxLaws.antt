@@ -15,3 +15,7 @@ edited_as n e same edited = edited ∙ ap (λ (m : Meaning). edit_header_step n 
 pub stepped_as : {T : Type 0} {whole part after : Meaning} {got : Result T Errno} (step : Meaning → Result T Errno × Meaning)
     → whole ≡ part → Steps part (step part) got after → Steps whole (step whole) got after
 stepped_as {after = after} {got = got} step same steps = subst (λ (m : Meaning). Steps m (step m) got after) (sym same) steps
+
+-- what is known of the meaning of the server in a box is known of the box's
+pub known_as : {whole part : Meaning} (P : Meaning → Type 0) → whole ≡ part → P part → P whole
+known_as P same known = subst P (sym same) known

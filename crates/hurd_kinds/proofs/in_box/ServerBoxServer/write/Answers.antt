@@ -1,10 +1,12 @@
-use Rattle.std.proofs.Common.{◌∙◌, ap, sym}
+use Rattle.std.proofs.Common.{◌≡◌, ◌∙◌, ◌+◌, [], length, ap, sym}
 use Rattle.hurd_trans_iface.specs.Behaviour.{writing}
-use Rattle.hurd_trans_iface.specs.Meaning.{step_of}
+use Rattle.hurd_trans_iface.specs.Nodes.{Reaches, body_of}
+use Rattle.hurd_trans_iface.specs.Meaning.{Meaning, step_of}
 use Rattle.hurd_small.specs.Fixed.{fixed_meaning}
 use Rattle.hurd_small.specs.Drip.{drip_meaning}
+use Rattle.hurd_tmpfs.specs.Tree.{tree}
 use Rattle.hurd_kinds.specs.Boxes.{box_meaning}
-use Rattle.hurd_kinds.proofs.BoxLaws.{stepped_as}
+use Rattle.hurd_kinds.proofs.BoxLaws.{known_as, stepped_as}
 use Rattle.hurd_kinds.proofs.in_box.ServerBoxServer.write.Goals as goal
 
 pub returns-in-Fixed-clause-steps : goal.returns-in-Fixed-clause-steps
@@ -16,3 +18,15 @@ pub returns-in-Drip-clause-steps : goal.returns-in-Drip-clause-steps
 unfolding box_meaning
 returns-in-Drip-clause-steps c =
     stepped_as (step_of (writing c.args.at c.args.bytes.now c.args.readers) c.args.node) (ap box_meaning c.in-Drip.is ∙ ap drip_meaning (sym c.deref_mut-in-Drip.ensures.value)) c.write-in-Drip.ensures.steps
+
+pub returns-in-Tmpfs-clause-steps : goal.returns-in-Tmpfs-clause-steps
+unfolding box_meaning
+returns-in-Tmpfs-clause-steps c = stepped_as (step_of (writing c.args.at c.args.bytes.now c.args.readers) c.args.node) (ap box_meaning c.in-Tmpfs.is ∙ ap tree (sym c.deref_mut-in-Tmpfs.ensures.value)) c.write-in-Tmpfs.ensures.steps
+
+pub returns-in-Tmpfs-clause-within : goal.returns-in-Tmpfs-clause-within
+unfolding box_meaning
+returns-in-Tmpfs-clause-within c = known_as (λ (m : Meaning). Reaches (body_of m.nodes c.args.node) (c.args.at + length c.args.bytes.now) → c.write-in-Tmpfs.result ≡ (step_of (writing c.args.at c.args.bytes.now c.args.readers) c.args.node m).0) (ap box_meaning c.in-Tmpfs.is ∙ ap tree (sym c.deref_mut-in-Tmpfs.ensures.value)) c.write-in-Tmpfs.ensures.within
+
+pub returns-in-Tmpfs-clause-nothing : goal.returns-in-Tmpfs-clause-nothing
+unfolding box_meaning
+returns-in-Tmpfs-clause-nothing c = known_as (λ (m : Meaning). c.args.bytes.now ≡ [] → c.write-in-Tmpfs.result ≡ (step_of (writing c.args.at c.args.bytes.now c.args.readers) c.args.node m).0) (ap box_meaning c.in-Tmpfs.is ∙ ap tree (sym c.deref_mut-in-Tmpfs.ensures.value)) c.write-in-Tmpfs.ensures.nothing
