@@ -7,12 +7,13 @@ use Rattle.hurd_machine.proofs.Common.{BodyOf, LeadsUp, Linked, Named, Seen, See
 use Rattle.hurd_machine.specs.World.{nodes_of}
 use Rattle.hurd_machine.proofs.Views.{Agree}
 use Rattle.hurd_machine.proofs.Asks.{IsNamed, first_ok, first_same, first_plain, ok_plain, answered_same, answered_plain, done_plain, links_same, links_plain}
+use Rattle.hurd_machine.proofs.Frame.{Full}
 use Rattle.hurd_machine.proofs.Lasts.{recounts_linked}
 use Rattle.hurd_machine.proofs.Linking.{may_link, link_whole}
 use Rattle.hurd_machine.proofs.CallLaws.{CallLaws, answered_piece}
 use Rattle.hurd_dirs.specs.declared.link.FileToName.{FileToName}
 use Rattle.hurd_dirs.specs.Entry.{name_asks, dir_asks}
-use Rattle.hurd_dirs.specs.Link.{link_asks, plan_link, touches_link}
+use Rattle.hurd_dirs.specs.Link.{OnName, link_asks, plan_link, touches_link}
 use Rattle.hurd_machine.proofs.BothLaws.{are_named, both_same, both_plain}
 use Rattle.hurd_dirs.proofs.EntryLaws.{IsEntryAt, entry_dir, entry_leads, entry_seen, dir_same, dir_plain, name_plain, named_seen}
 
@@ -56,7 +57,7 @@ module _ (t p : ℕ) (name : List ℕ) (q : ℕ) where
   link_laws = record {
     piece = λ w s. answered_piece s (link_asks w t p name q) _ _ (λ f is. answered_piece s (links_at w f.dir name f.file) _ _ (λ u may.
         let n = named_by w f is in
-        link_whole f.dir name f.file good s (may_link w f.dir name f.file u may) (link_leads w s.linked f n) (inl (inl refl)) (inl (inr (inl refl))) (inl (inr (inr (inl refl)))) (recounts_linked w f.file (λ p on. inl (inr (inr (inr on))))) (λ S ours. file_seen ours f n)));
+        link_whole f.dir name f.file good s (may_link w f.dir name f.file u may) (link_leads w s.linked f n) (inl (inl refl)) (inl (inr (inl refl))) (inl (inr (inr (inl refl)))) (recounts_linked {T = Full w t (OnName w f)} w f.file (λ q on. inl (inr (inr (inr on))))) (λ S ours. file_seen ours f n)));
     same = λ S v w c d a ours. answered_same _ _ _ _ (link_same a ours) (λ f is.
         let n = named_by v f is in
         answered_same _ _ _ _ (links_same a f.dir f.file name (dir_seen ours f n) (file_seen ours f n)) (λ u may. refl));

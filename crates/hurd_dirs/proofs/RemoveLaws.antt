@@ -13,6 +13,7 @@ use Rattle.hurd_machine.specs.Plan.{Follows}
 use Rattle.hurd_machine.proofs.Nodes.{header_in, body_in, node_of_header}
 use Rattle.hurd_machine.proofs.Coherence.{entry_lists}
 use Rattle.hurd_machine.proofs.Views.{Agree, header_same, body_same, home_same, active_same}
+use Rattle.hurd_machine.proofs.Frame.{Full}
 use Rattle.hurd_machine.proofs.Lasts.{recounts_unlinked}
 use Rattle.hurd_machine.proofs.Removals.{MayRemove, unlinking_piece}
 use Rattle.hurd_machine.proofs.Asks.{IsPlain, on_ok, given_ok, first_ok, on_same, given_same, first_same, on_plain, given_plain, first_plain, ok_plain, answered_same, answered_plain, done_plain}
@@ -170,7 +171,7 @@ module _ (t p : ℕ) (name : List ℕ) (asks : World → Result Entered Errno) w
     piece = λ w s. answered_piece s (asks w) _ _ (λ x is.
         let k = takes w x is in
         settled (gone.unlinking x.dir name x.node) (tt, (tt, tt)) (stands s) (unlinking_piece x.dir name x.node good (stands s) (may_remove w s.coherent t p name x k) (inl (inl refl)) (inl (inr (inl refl))) (inl (inr (inr (inl refl))))
-        (recounts_unlinked w x.node (λ q on. inl (inr (inr (inr on))))) (λ S ours. (body_seen t ours p name x k.is_taking, node_seen t ours p name x k.is_taking))));
+        (recounts_unlinked {T = Full w t (OnEntry w x)} w x.node (λ q on. inl (inr (inr (inr on))))) (λ S ours. (body_seen t ours p name x k.is_taking, node_seen t ours p name x k.is_taking))));
     same = λ S v w c d a ours. answered_same _ _ _ _ (same S v w c a ours) (λ x is. refl);
     plain = λ w. answered_plain _ _ (plain w) (λ x is. done_plain Done refl);
   }

@@ -347,7 +347,7 @@ module _ (t p q : ℕ) (name new : List ℕ) where
       each : (a b : Named) (l : Name × Header) → Asked w t p q name new a b l → let r : Renaming = renaming w new a b l in Whole t (Full w t (touched w r)) w w (renames name new r r.old)
       each a b l f = by_old w b l r name new (Whole t T w w) refl f.old (λ there. whole_none s) (λ none. settled goings (tt, (tt, (tt, tt))) (stands s) (onward (stands s) (goes w t p q name new a b l f c s.linked none) (λ h at. at))) (λ m old other gives.
           settled (unlinking r.to new m ++ goings) (tt, (tt, (tt, (tt, (tt, tt))))) (stands s)
-          (piece_then (unlinking r.to new m) goings (tt, (tt, tt)) (stands s) (unlinking_piece r.to new m good (stands s) (removes w t p q name new a b l f c s.linked m old other gives) body empty (inl (inr (inr (inr (m, old, inl refl))))) (recounts_unlinked w m (λ x on. inl (inr (inr (inr (m, old, inr on)))))) (λ S ours. (to S ours, replaced S ours m old)))
+          (piece_then (unlinking r.to new m) goings (tt, (tt, tt)) (stands s) (unlinking_piece r.to new m good (stands s) (removes w t p q name new a b l f c s.linked m old other gives) body empty (inl (inr (inr (inr (m, old, inl refl))))) (recounts_unlinked {T = T} w m (λ x on. inl (inr (inr (inr (m, old, inr on)))))) (λ S ours. (to S ours, replaced S ours m old)))
           (λ d. onward d (left_goes w t p q name new a b l f c s.linked m old other gives) (λ h at. sym (left_header w r.to new m r.node (λ same. other (sym same))) ∙ at))))
         where
           r : Renaming
@@ -369,7 +369,7 @@ module _ (t p q : ℕ) (name new : List ℕ) where
           to S ours = entries_seen t ours q b f.named.other f.trees.to
 
           replaced : (S : ℕ → Bool) → S t ≡ true → (m : Name) → r.old ≡ Some m → Seen S w m
-          replaced S ours m old = child_seen t ours q b f.named.other f.trees.to new m (sym old)
+          replaced S ours m old = child_seen t ours q b f.named.other f.trees.to new m old
 
           -- in a world where the node has the header that it had
           onward : {x : World} → Stands x → MayGo x r.from name r.node r.to new → ((h : Header) → header_at x r.node ≡ Some h → header_at w r.node ≡ Some h) → Piece t T w x goings

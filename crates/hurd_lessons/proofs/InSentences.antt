@@ -35,12 +35,12 @@ use Rattle.hurd_views.specs.declared.rows.ServerRow.{ServerRow}
 use Rattle.hurd_views.specs.declared.rows.TextRow.{TextRow}
 use Rattle.hurd_views.specs.declared.view.View.{View}
 use Rattle.hurd_lessons.specs.Changes.{is_kept, shows}
-use Rattle.hurd_lessons.specs.Differences.{body_change, changed_attrs, changed_body, changed_node, changed_open, changed_opened, changed_server, empty_change, ends_change, entries_gone, entries_new, modes_or_none, modes_part, noted, parent_at, server_change, signed_names, text_change, users_change}
-use Rattle.hurd_lessons.specs.Lessons.{GoneLineOf, LineOf, Lines, Unless, body_word, emptiness, ends_beside, is_listing, line, moved, note_body, note_empty, note_ends, note_node, note_open, note_server, note_text, or_changed, parts_of, place_in, said_of}
+use Rattle.hurd_lessons.specs.Differences.{body_change, changed_attrs, changed_body, changed_node, changed_open, changed_opened, changed_server, empty_change, ends_change, entries_gone, entries_new, modes_or_none, modes_part, noted, number_change, parent_at, server_change, signed_names, text_change}
+use Rattle.hurd_lessons.specs.Lessons.{GoneLineOf, LineOf, Lines, Unless, body_word, emptiness, ends_beside, is_listing, line, moved, note_body, note_empty, note_ends, note_node, note_open, note_server, note_text, note_users, or_changed, parts_of, place_in, said_of}
 use Rattle.hurd_lessons.specs.Values.{bytes_change, line_from, names_of, number_part, part_if, parted, path_or_none, server_or_none, short_mode, spelled_or_none, turned_part, with_part, words_or_none}
 use Rattle.hurd_places.specs.Places.{node_path, place_of, server_path}
 use Rattle.hurd_places.proofs.FitLaws.{node_path_fits, place_fits, server_path_fits}
-use Rattle.hurd_lessons.specs.Seen.{active_part, attributes_text, body_part, body_text, cursor_text, empty_part, ends_part, ends_text, entry_names, held_text, home_part, modes_text, node_places, node_text, opened_text, parent_of, parent_part, passive_text, places_text, program_text, given_text, on_part, opened_by_tasks, port_numbers, program_of, read_text, reads_of, seat_line, seat_lines, seat_text, seen_line, seen_lines, seen_of, server_named, server_parts, spaced_text, start_text, targets_part, task_text, text_part, uid_or_none, uid_text, users_text, words_behind, words_text}
+use Rattle.hurd_lessons.specs.Seen.{active_part, attributes_text, body_part, body_text, cursor_text, empty_part, ends_part, ends_text, entry_names, held_text, home_part, modes_text, node_places, node_text, number_text, opened_text, parent_of, parent_part, passive_text, places_text, program_text, given_text, on_part, opened_by_tasks, port_numbers, program_of, read_text, reads_of, seat_line, seat_lines, seat_text, seen_line, seen_lines, seen_of, server_named, server_parts, spaced_text, start_text, targets_part, task_text, text_part, uid_or_none, uid_text, words_behind, words_text}
 use Rattle.hurd_lessons.specs.Told.{SeenInSentences, TaughtInSentences}
 use Rattle.hurd_lessons.specs.declared.changes.Became.{Became}
 use Rattle.hurd_lessons.specs.declared.changes.Became.TheVariants as became
@@ -324,10 +324,10 @@ text_said words (Some (Some x)) None said = said
 text_said words (Some None) y said = said
 text_said words None y said = said
 
-users_said : (words : List ℕ) (m n : Option ℕ) → (words ≡ []) ⊎ IsClauseText words → (users_change words m n ≡ []) ⊎ IsClauseText (users_change words m n)
-users_said words (Some m) (Some n) said = number_said (codes "users") m n said refl
-users_said words None n said = said
-users_said words (Some m) None said = said
+seen_number_said : (words word : List ℕ) (m n : Option ℕ) → fits word ≡ true → (words ≡ []) ⊎ IsClauseText words → (number_change words word m n ≡ []) ⊎ IsClauseText (number_change words word m n)
+seen_number_said words word (Some m) (Some n) fit said = number_said word m n said fit
+seen_number_said words word None n fit said = said
+seen_number_said words word (Some m) None fit said = said
 
 parts_said : (a b : View) (x y : Row) (c : Change) → (parts_of a b x y c ≡ []) ⊎ IsClauseText (parts_of a b x y c)
 parts_said a b x y c =
@@ -338,6 +338,7 @@ parts_said a b x y c =
     let four : List ℕ = note_open x y c three in
     let five : List ℕ = note_server a b x y c four in
     let six : List ℕ = note_text x y c five in
+    let seven : List ℕ = note_users x y c six in
     let first : (one ≡ []) ⊎ IsClauseText one = noted_said [] (codes "attributes") _ c.attributes (inl refl) refl (node_said a b [] x.attributes y.attributes (inl refl)) in
     let ends : (told ≡ []) ⊎ IsClauseText told = noted_said one (codes "readers and writers") _ (ends_beside c.body c.ends) first refl (ends_said one x.ends y.ends first) in
     let second : (two ≡ []) ⊎ IsClauseText two =
@@ -347,7 +348,8 @@ parts_said a b x y c =
     let fourth : (four ≡ []) ⊎ IsClauseText four = noted_said three (codes "open") _ c.opened third refl (open_said three x.opened y.opened third) in
     let fifth : (five ≡ []) ⊎ IsClauseText five = noted_said four (codes "program") _ c.server fourth refl (server_said a b four x.server y.server fourth) in
     let sixth : (six ≡ []) ⊎ IsClauseText six = noted_said five (codes "text") _ c.text fifth refl (text_said five x.text y.text fifth) in
-    noted_said six (codes "users") _ c.users sixth refl (users_said six x.users y.users sixth)
+    let seventh : (seven ≡ []) ⊎ IsClauseText seven = noted_said six (codes "users") _ c.users sixth refl (seen_number_said six (codes "users") x.users y.users refl sixth) in
+    noted_said seven (codes "total") _ c.total seventh refl (seen_number_said seven (codes "total") x.total y.total refl seventh)
 
 -- parts, where there are any, are a clause
 changed_clause : (words : List ℕ) → (words ≡ []) ⊎ IsClauseText words → IsClauseText (or_changed words)
@@ -533,8 +535,8 @@ text_fits None p is = absurd (cc)
 text_fits (Some None) p is = absurd (cc)
 text_fits (Some (Some r)) p is = some_fits (codes "text " ++ words_text r) p (both_fit (codes "text ") (words_text r) refl (words_or_none_fit (words_behind r.options))) is
 
-users_fit : (n : ℕ) → fits (users_text n) ≡ true
-users_fit n = both_fit (codes "users") (spaced n) refl (spaced_fits n)
+number_text_fits : (word : List ℕ) (n : ℕ) → fits word ≡ true → fits (number_text word n) ≡ true
+number_text_fits word n fit = both_fit word (spaced n) fit (spaced_fits n)
 
 node_fits : (r : NodeRow) → fits (node_text r) ≡ true
 node_fits r = attributes_fit r.attrs r.words
@@ -542,6 +544,7 @@ node_fits r = attributes_fit r.attrs r.words
 row_said : (v : View) (n : Name) (r : Row) → (seen_of v n r ≡ []) ⊎ IsClauseText (seen_of v n r)
 row_said v n r =
     part_said _ _
+    (part_said _ _
     (part_said _ _
     (server_shown v _ r.server
     (part_said _ _
@@ -559,7 +562,8 @@ row_said v n r =
     (mapped_fits cursor_text r.opened cursor_fits))
     (mapped_fits held_text r.opened held_fits)))
     (text_fits r.text))
-    (mapped_fits users_text r.users users_fit)
+    (mapped_fits (number_text (codes "users")) r.users (λ n. number_text_fits (codes "users") n refl)))
+    (mapped_fits (number_text (codes "total")) r.total (λ n. number_text_fits (codes "total") n refl))
 
 one_seen : (who : List ℕ) (v : View) (n : Name) → InSentences who (seen_line who v n)
 one_seen who v n = go (shows (row_at v.rows n))

@@ -42,11 +42,11 @@ turned_once (Some x) (Some y) b d (inr s) (inr t) = s.1 ∙ sym t.1
 
 -- a row
 
-rows_equal : (x y : Row) → x.attributes ≡ y.attributes → x.body ≡ y.body → x.ends ≡ y.ends → x.empty ≡ y.empty → x.opened ≡ y.opened → x.server ≡ y.server → x.text ≡ y.text → x.users ≡ y.users → x ≡ y
-rows_equal x y a b h c d e f g = λ i. record { attributes = a i; empty = c i; body = b i; ends = h i; opened = d i; server = e i; text = f i; users = g i }
+rows_equal : (x y : Row) → x.attributes ≡ y.attributes → x.body ≡ y.body → x.ends ≡ y.ends → x.empty ≡ y.empty → x.opened ≡ y.opened → x.server ≡ y.server → x.text ≡ y.text → x.users ≡ y.users → x.total ≡ y.total → x ≡ y
+rows_equal x y a b h c d e f g j = λ i. record { attributes = a i; empty = c i; body = b i; ends = h i; opened = d i; server = e i; text = f i; users = g i; total = j i }
 
-changes_equal : (x y : Change) → x.attributes ≡ y.attributes → x.body ≡ y.body → x.ends ≡ y.ends → x.empty ≡ y.empty → x.opened ≡ y.opened → x.server ≡ y.server → x.text ≡ y.text → x.users ≡ y.users → x ≡ y
-changes_equal x y a b h c d e f g = λ i. record { attributes = a i; empty = c i; body = b i; ends = h i; opened = d i; server = e i; text = f i; users = g i }
+changes_equal : (x y : Change) → x.attributes ≡ y.attributes → x.body ≡ y.body → x.ends ≡ y.ends → x.empty ≡ y.empty → x.opened ≡ y.opened → x.server ≡ y.server → x.text ≡ y.text → x.users ≡ y.users → x.total ≡ y.total → x ≡ y
+changes_equal x y a b h c d e f g j = λ i. record { attributes = a i; empty = c i; body = b i; ends = h i; opened = d i; server = e i; text = f i; users = g i; total = j i }
 
 kept_rows : (x y : Row) (c : Change) → IsChange x y c → is_kept c ≡ true → x ≡ y
 kept_rows x y c is kept =
@@ -57,21 +57,22 @@ kept_rows x y c is kept =
     let e = both _ _ d.1 in
     let f = both _ _ e.1 in
     let g = both _ _ f.1 in
+    let j = both _ _ g.1 in
     rows_equal x y (turned_same _ _ _ is.attributes a.0) (turned_same _ _ _ is.body b.0) (turned_same _ _ _ is.ends h.0) (turned_same _ _ _ is.empty d.0)
-    (turned_same _ _ _ is.opened e.0) (turned_same _ _ _ is.server f.0) (turned_same _ _ _ is.text g.0) (turned_same _ _ _ is.users g.1)
+    (turned_same _ _ _ is.opened e.0) (turned_same _ _ _ is.server f.0) (turned_same _ _ _ is.text g.0) (turned_same _ _ _ is.users j.0) (turned_same _ _ _ is.total j.1)
 
-all_true : (a b c d e f g h : Bool) → a ≡ true → b ≡ true → c ≡ true → d ≡ true → e ≡ true → f ≡ true → g ≡ true → h ≡ true → (a && (b && (c && (d && (e && (f && (g && h))))))) ≡ true
-all_true a b c d e f g h p q r s t u v w = rw (p, q, r, s, t, u, v, w) refl
+all_true : (a b c d e f g h j : Bool) → a ≡ true → b ≡ true → c ≡ true → d ≡ true → e ≡ true → f ≡ true → g ≡ true → h ≡ true → j ≡ true → (a && (b && (c && (d && (e && (f && (g && (h && j)))))))) ≡ true
+all_true a b c d e f g h j p q r s t u v w x = rw (p, q, r, s, t, u, v, w, x) refl
 
 rows_kept : (x : Row) (c : Change) → IsChange x x c → is_kept c ≡ true
 rows_kept x c is =
-    all_true _ _ _ _ _ _ _ _ (same_turned x.attributes _ is.attributes) (same_turned x.body _ is.body) (same_turned x.ends _ is.ends) (same_turned x.empty _ is.empty)
-    (same_turned x.opened _ is.opened) (same_turned x.server _ is.server) (same_turned x.text _ is.text) (same_turned x.users _ is.users)
+    all_true _ _ _ _ _ _ _ _ _ (same_turned x.attributes _ is.attributes) (same_turned x.body _ is.body) (same_turned x.ends _ is.ends) (same_turned x.empty _ is.empty)
+    (same_turned x.opened _ is.opened) (same_turned x.server _ is.server) (same_turned x.text _ is.text) (same_turned x.users _ is.users) (same_turned x.total _ is.total)
 
 change_once : (x y : Row) (c d : Change) → IsChange x y c → IsChange x y d → c ≡ d
 change_once x y c d s t =
     changes_equal c d (turned_once _ _ _ _ s.attributes t.attributes) (turned_once _ _ _ _ s.body t.body) (turned_once _ _ _ _ s.ends t.ends) (turned_once _ _ _ _ s.empty t.empty)
-    (turned_once _ _ _ _ s.opened t.opened) (turned_once _ _ _ _ s.server t.server) (turned_once _ _ _ _ s.text t.text) (turned_once _ _ _ _ s.users t.users)
+    (turned_once _ _ _ _ s.opened t.opened) (turned_once _ _ _ _ s.server t.server) (turned_once _ _ _ _ s.text t.text) (turned_once _ _ _ _ s.users t.users) (turned_once _ _ _ _ s.total t.total)
 
 -- a line
 

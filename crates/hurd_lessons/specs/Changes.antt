@@ -22,6 +22,7 @@ pub record IsChange (x y : Row) (c : Change) : Type 0 where
   pub server : Turned x.server y.server c.server
   pub text : Turned x.text y.text c.text
   pub users : Turned x.users y.users c.users
+  pub total : Turned x.total y.total c.total
 
 -- a part is as it was
 abbrev pub is_same : Became → Bool
@@ -30,8 +31,8 @@ is_same _ = false
 
 -- each part is
 abbrev pub is_kept : Change → Bool
-is_kept c = is_same c.attributes && (is_same c.body && (is_same c.ends && (is_same c.empty && (is_same c.opened && (is_same c.server && (is_same c.text && is_same c.users))))))
+is_kept c = is_same c.attributes && (is_same c.body && (is_same c.ends && (is_same c.empty && (is_same c.opened && (is_same c.server && (is_same c.text && (is_same c.users && is_same c.total)))))))
 
 -- anything is seen
 abbrev pub shows : Row → Bool
-shows r = is_some r.attributes || (is_some r.body || (is_some r.ends || (is_some r.empty || (is_some r.opened || (is_some r.server || (is_some r.text || is_some r.users))))))
+shows r = is_some r.attributes || (is_some r.body || (is_some r.ends || (is_some r.empty || (is_some r.opened || (is_some r.server || (is_some r.text || (is_some r.users || is_some r.total)))))))

@@ -149,7 +149,7 @@ abbrev pub text_change : List ℕ → Option (Option TextRow) → Option (Option
 text_change words (Some (Some x)) (Some (Some y)) = with_part words (turned_part (codes "text") (words_text x) (words_text y))
 text_change words _ _ = words
 
--- how many rights there are on a server's nodes
-abbrev pub users_change : List ℕ → Option ℕ → Option ℕ → List ℕ
-users_change words (Some m) (Some n) = with_part words (number_part (codes "users") m n)
-users_change words _ _ = words
+-- a number that may be seen, by its word
+abbrev pub number_change : List ℕ → List ℕ → Option ℕ → Option ℕ → List ℕ
+number_change words word (Some m) (Some n) = with_part words (number_part word m n)
+number_change words word _ _ = words

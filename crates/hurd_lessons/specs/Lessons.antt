@@ -7,7 +7,7 @@ use Rattle.hurd_views.specs.declared.rows.BodyRow.TheVariants as body
 use Rattle.hurd_views.specs.declared.rows.Row.{Row}
 use Rattle.hurd_views.specs.declared.view.View.{View}
 use Rattle.hurd_lessons.specs.Changes.{IsChange, is_kept, shows}
-use Rattle.hurd_lessons.specs.Differences.{body_change, changed_node, changed_open, empty_change, ends_change, noted, server_change, text_change, users_change}
+use Rattle.hurd_lessons.specs.Differences.{body_change, changed_node, changed_open, empty_change, ends_change, noted, number_change, server_change, text_change}
 use Rattle.hurd_places.specs.Places.{place_of}
 use Rattle.hurd_lessons.specs.Values.{line_from, names_of, with_part}
 use Rattle.hurd_lessons.specs.declared.changes.Became.{Became}
@@ -47,7 +47,7 @@ note_body x y c words = noted words (body_word x y) (with_part words (Some (body
 abbrev pub note_empty : Row → Change → List ℕ → List ℕ
 note_empty y c words = noted words (codes "emptiness") (with_part words (Some (empty_change y.empty))) (emptiness c.body c.empty)
 
--- the same of an open, and of a server, its text and its users
+-- the same of an open, and of a server, its text, its users and its total
 abbrev pub note_open : Row → Row → Change → List ℕ → List ℕ
 note_open x y c words = noted words (codes "open") (changed_open words x.opened y.opened) c.opened
 
@@ -58,11 +58,15 @@ abbrev pub note_text : Row → Row → Change → List ℕ → List ℕ
 note_text x y c words = noted words (codes "text") (text_change words x.text y.text) c.text
 
 abbrev pub note_users : Row → Row → Change → List ℕ → List ℕ
-note_users x y c words = noted words (codes "users") (users_change words x.users y.users) c.users
+note_users x y c words = noted words (codes "users") (number_change words (codes "users") x.users y.users) c.users
+
+abbrev pub note_total : Row → Row → Change → List ℕ → List ℕ
+note_total x y c words = noted words (codes "total") (number_change words (codes "total") x.total y.total) c.total
 
 -- all parts that changed under a name
 abbrev pub parts_of : View → View → Row → Row → Change → List ℕ
-parts_of a b x y c = note_users x y c (note_text x y c (note_server a b x y c (note_open x y c (note_empty y c (note_body x y c (note_ends x y c (note_node a b x y c [])))))))
+parts_of a b x y c =
+    note_total x y c (note_users x y c (note_text x y c (note_server a b x y c (note_open x y c (note_empty y c (note_body x y c (note_ends x y c (note_node a b x y c []))))))))
 
 -- parts, where there are any
 abbrev pub or_changed : List ℕ → List ℕ

@@ -228,7 +228,7 @@ abbrev pub spaced_text : List ℕ → List ℕ
 spaced_text [] = []
 spaced_text (b ∷ bs) = 32 ∷ spelled (b ∷ bs)
 
--- the program of a server, and behind it the text that whoever knows the server is told: a link's
+-- the program of a server, and behind it the text that whoever knows it is told: a link's, or a tree's, which is its limit
 abbrev pub program_text : ServerRow → List ℕ
 program_text s = spelled_or_none s.program ++ spaced_text s.text
 
@@ -257,9 +257,9 @@ abbrev pub text_part : Option (Option TextRow) → Option (List ℕ)
 text_part (Some (Some r)) = Some (codes "text " ++ words_text r)
 text_part _ = None
 
--- how many rights there are on a server's nodes
-abbrev pub users_text : ℕ → List ℕ
-users_text n = codes "users" ++ spaced n
+-- a number by its word
+abbrev pub number_text : List ℕ → ℕ → List ℕ
+number_text word n = word ++ spaced n
 
 -- what is seen of a node, by its parts
 abbrev pub node_parts : View → Name → Row → List ℕ
@@ -273,16 +273,17 @@ node_parts v n r =
     (body_part (program_of v n r.attributes) r.body))
     (empty_part r.body r.empty)
 
--- all that is seen under a name, by its parts
+-- all that is seen under a name, by its parts; at last the users of a server, and the total of a tree
 abbrev pub seen_of : View → Name → Row → List ℕ
 seen_of v n r =
-    with_part (with_part (server_parts v (with_part (with_part (with_part (node_parts v n r)
+    with_part (with_part (with_part (server_parts v (with_part (with_part (with_part (node_parts v n r)
     (on_part v n r.opened))
     (option_map cursor_text r.opened))
     (option_map held_text r.opened))
     r.server)
     (text_part r.text))
-    (option_map users_text r.users)
+    (option_map (number_text (codes "users")) r.users))
+    (option_map (number_text (codes "total")) r.total)
 
 -- a name's line, where anything is seen under it
 abbrev pub seen_line : List ℕ → View → Name → List ℕ

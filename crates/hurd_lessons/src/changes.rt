@@ -31,6 +31,7 @@ pub(crate) struct Change {
     pub(crate) server: Became,
     pub(crate) text: Became,
     pub(crate) users: Became,
+    pub(crate) total: Became,
 }
 
 impl Became {
@@ -93,6 +94,7 @@ impl Change {
             server: Became::of(&before.server, &after.server),
             text: Became::of(&before.text, &after.text),
             users: Became::of(&before.users, &after.users),
+            total: Became::of(&before.total, &after.total),
         }
     }
 
@@ -108,6 +110,7 @@ impl Change {
             && self.server.is_same()
             && self.text.is_same()
             && self.users.is_same()
+            && self.total.is_same()
     }
 }
 
@@ -123,6 +126,7 @@ pub(crate) fn shows(row: &Row) -> bool
         || row.server.is_some()
         || row.text.is_some()
         || row.users.is_some()
+        || row.total.is_some()
 }
 
 /// A row in which nothing is seen.
@@ -138,5 +142,6 @@ pub(crate) fn no_row() -> Row
         server: None,
         text: None,
         users: None,
+        total: None,
     }
 }

@@ -1,6 +1,6 @@
 //! What became of the parts that are seen under a name, in words.
 ghost use Rattle.std.specs.Prelude.{◌≡◌, ◌++◌, ◌≤◌, ◌+◌, ◌∷◌, [], codes, drop, if◌then◌else◌, IfOk, OnOk, Some};
-ghost use Rattle.hurd_lessons.specs.Differences.{body_change, changed_attrs, changed_body, changed_node, changed_open, changed_opened, changed_server, comes_next, empty_change, ends_change, entries_gone, entries_new, modes_or_none, modes_part, noted, parent_at, passed, same_entry, server_change, text_change, signed_names, users_change};
+ghost use Rattle.hurd_lessons.specs.Differences.{body_change, changed_attrs, changed_body, changed_node, changed_open, changed_opened, changed_server, comes_next, empty_change, ends_change, entries_gone, entries_new, modes_or_none, modes_part, noted, number_change, parent_at, passed, same_entry, server_change, text_change, signed_names};
 ghost use Rattle.hurd_sentences.specs.Spelling.{spelled_name};
 ghost use Rattle.hurd_lessons.specs.Seen.{places_text, program_text, uid_text};
 ghost use Rattle.hurd_lessons.specs.Lessons.{body_word, emptiness, ends_beside, is_listing, or_changed, parts_of, said_of};
@@ -491,12 +491,17 @@ fn add_text(
     }
 }
 
-/// Adds how many rights there were on a server's nodes, and are.
-fn add_users(words: &mut Vec<u8>, old: Option<u128>, new: Option<u128>) -> Result<(), AllocError>
-    ensures { OnOk result (words.new.items ≡ users_change words.old.items old new) }
+/// Adds a number that may be seen, by its word.
+fn add_seen_number(
+    words: &mut Vec<u8>,
+    word: &[u8],
+    old: Option<u128>,
+    new: Option<u128>,
+) -> Result<(), AllocError>
+    ensures { OnOk result (words.new.items ≡ number_change words.old.items word.now old new) }
 {
     match (old, new) {
-        (Some(old), Some(new)) => add_number(words, b"users", old, new),
+        (Some(old), Some(new)) => add_number(words, word, old, new),
         _ => Ok(()),
     }
 }
@@ -663,20 +668,21 @@ fn note_text(
     }
 }
 
-/// Adds how many rights there are on a server's nodes, unless there are as many as there were.
-fn note_users(
+/// Adds the part of a number by its word, unless it is as it was.
+fn note_number(
     words: &mut Vec<u8>,
+    word: &[u8],
     old: Option<u128>,
     new: Option<u128>,
     became: Became,
 ) -> Result<(), AllocError>
-    ensures { OnOk result (words.new.items ≡ noted words.old.items (codes "users") (users_change words.old.items old new) became) }
+    ensures { OnOk result (words.new.items ≡ noted words.old.items word.now (number_change words.old.items word.now old new) became) }
 {
     match became {
         Became::Same => Ok(()),
-        Became::New => add_part(words, b"users"),
-        Became::Lost => note(words, b"users", LOST),
-        Became::Changed => add_users(words, old, new),
+        Became::New => add_part(words, word),
+        Became::Lost => note(words, word, LOST),
+        Became::Changed => add_seen_number(words, word, old, new),
     }
 }
 
@@ -720,7 +726,8 @@ fn parts(
         change.server,
     )?;
     note_text(alloc, &mut words, &old.text, &new.text, change.text)?;
-    note_users(&mut words, old.users, new.users, change.users)?;
+    note_number(&mut words, b"users", old.users, new.users, change.users)?;
+    note_number(&mut words, b"total", old.total, new.total, change.total)?;
     Ok(words)
 }
 

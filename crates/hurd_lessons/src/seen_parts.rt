@@ -2,7 +2,7 @@
 ghost use Rattle.std.specs.Prelude.{◌≡◌, ◌∷◌, ◌++◌, bytes_eq, codes, IfOk, OnOk, Some};
 ghost use Rattle.std.specs.Option.{option_map};
 ghost use Rattle.hurd_places.specs.Places.{node_path};
-ghost use Rattle.hurd_lessons.specs.Seen.{active_part, program_text, spaced_text, text_part, words_behind, body_part, body_text, bytes_text, cursor_text, empty_part, empty_text, ends_part, ends_text, entry_names, held_text, given_text, home_part, listing_text, modes_text, node_places, node_parts, node_text, on_part, opened_by_tasks, parent_part, passive_text, places_text, program_in, program_of, read_text, reads_of, seen_of, server_named, server_parts, targets_part, uid_text, users_text};
+ghost use Rattle.hurd_lessons.specs.Seen.{active_part, program_text, spaced_text, text_part, words_behind, body_part, body_text, bytes_text, cursor_text, empty_part, empty_text, ends_part, ends_text, entry_names, held_text, given_text, home_part, listing_text, modes_text, node_places, node_parts, node_text, number_text, on_part, opened_by_tasks, parent_part, passive_text, places_text, program_in, program_of, read_text, reads_of, seen_of, server_named, server_parts, targets_part, uid_text};
 ghost use Rattle.hurd_lessons.specs.Values.{with_part, words_or_none};
 
 use crate::opens::opened_by_tasks;
@@ -317,7 +317,7 @@ fn push_text(words: &mut Vec<u8>, text: &[u8]) -> Result<(), AllocError>
     push_word(words, text)
 }
 
-/// The program of a server, and of a link its text.
+/// The program of a server, and behind it a link's text, or a tree's, which is its limit.
 pub(crate) fn program_text(alloc: Global, server: &ServerRow) -> Result<Vec<u8>, AllocError>
     ensures { IfOk result (λ text. text.items ≡ program_text server.now) }
 {
@@ -605,16 +605,16 @@ fn add_server(
     }
 }
 
-/// Adds how many rights there are on a server's nodes, where that is seen.
-fn add_users(words: &mut Vec<u8>, users: Option<u128>) -> Result<(), AllocError>
-    ensures { OnOk result (words.new.items ≡ with_part words.old.items (option_map users_text users)) }
+/// Adds a number by its word, where it is seen.
+fn add_number(words: &mut Vec<u8>, word: &[u8], number: Option<u128>) -> Result<(), AllocError>
+    ensures { OnOk result (words.new.items ≡ with_part words.old.items (option_map (number_text word.now) number)) }
 {
-    let Some(users) = users else {
+    let Some(number) = number else {
         return Ok(());
     };
     part(words)?;
-    words.extend_from_slice(b"users")?;
-    push_long_number(words, users)
+    words.extend_from_slice(word)?;
+    push_long_number(words, number)
 }
 
 /// What is seen of a node, by its parts.
@@ -651,6 +651,7 @@ pub(crate) fn seen_of(
     add_held(&mut words, &row.opened)?;
     add_server(alloc, &mut words, view, &row.server)?;
     add_text(&mut words, &row.text)?;
-    add_users(&mut words, row.users)?;
+    add_number(&mut words, b"users", row.users)?;
+    add_number(&mut words, b"total", row.total)?;
     Ok(words)
 }

@@ -22,14 +22,14 @@ abbrev pub targets_text : View → Name → List Name → List ℕ
 targets_text v root [] = []
 targets_text v root (n ∷ ns) = target_text v root n ++ targets_text v root ns
 
--- the text of a link behind a space, where it has any
-abbrev pub link_text : List ℕ → List ℕ
-link_text [] = []
-link_text (b ∷ bs) = codes " " ++ short_label (b ∷ bs)
+-- the first of some bytes behind a space, where there are any
+abbrev pub spaced_label : List ℕ → List ℕ
+spaced_label [] = []
+spaced_label (b ∷ bs) = codes " " ++ short_label (b ∷ bs)
 
--- the program of a server, and of a link its text
+-- the program of a server, and behind it a link's text, or a tree's, which is its limit
 abbrev pub program_text : ServerRow → List ℕ
-program_text s = short_label s.program ++ link_text s.text
+program_text s = short_label s.program ++ spaced_label s.text
 
 -- what a server's box is called: by its words where they are seen, else by its program
 abbrev pub called_text : ServerRow → Option (Option TextRow) → List ℕ

@@ -2,7 +2,7 @@
 use Rattle.std.proofs.Common.{◌≡◌, ◌∙◌, ◌⊎◌, inl, inr, sym, refl, ap, subst, ℕ, Bool, true, List, [], ◌∷◌, if◌then◌else◌}
 use Rattle.std.specs.Prelude.{◌↔◌, ◌||◌, ◌&&◌, not, is_some, Option, Some, slice_get}
 use Rattle.std.specs.FinMap as fin
-use Rattle.hurd_machine.proofs.Common.{BodyOf, InRoot, SeesText, TextOf, ToControl, is_home, ByBody, ByControl, ByNode, ByParent, BySeat, Control, Could, CouldServe, Dir, Exec, Header, Holds, IdSets, Io, IoRight, IsAmong, IsOpen, Knows, MaySend, Name, NodeState, OfControl, OfNode, OfSeat, Opened, OwnsIt, PortState, READ, Read, Right, Seen, Sees, SeesBody, SeesEmpty, Sends, ServerInfo, Start, Task, TaskId, ToPut, ToRead, ToSearch, WRITE, Want, World, Write, active_at, asks, bare, boot_name, counts_at, flat_map, header_at, header_of, home_at, is_dir, open_at, owns, put, same_name, server_at, world_from}
+use Rattle.hurd_machine.proofs.Common.{BodyOf, InRoot, SeesText, TextOf, ToControl, is_home, ByBody, ByControl, ByNode, ByParent, BySeat, Control, Could, CouldServe, Dir, Exec, Header, Holds, IdSets, Io, IoRight, IsAmong, IsOpen, Knows, MaySend, Name, NodeState, OfControl, OfNode, OfSeat, Opened, OwnsIt, PortState, READ, Read, Right, Seen, Sees, SeesBody, SeesEmpty, SeesTotal, Sends, ServerInfo, Start, Task, TaskId, ToPut, ToRead, ToSearch, WRITE, Want, World, Write, active_at, asks, bare, boot_name, counts_at, flat_map, header_at, header_of, home_at, is_dir, limit_by, limit_of, open_at, owns, put, same_name, server_at, tree_by, world_from}
 use Rattle.std.specs.Global.{Vec}
 use Rattle.std.proofs.lemmas.Bool.{or_cases, or_left, or_right, and_parts, and_from, not-true}
 use Rattle.hurd_creds.proofs.NameLaws.{equal_if_same, same_name-itself, apart_if_not_same, same_name-apart}
@@ -17,7 +17,7 @@ use Rattle.hurd_sight.specs.declared.held.RightNames.{RightNames}
 use Rattle.hurd_sight.specs.declared.looks.Sight.{Sight}
 use Rattle.hurd_sight.specs.declared.parts.SeenPart.TheVariants as seen
 use Rattle.hurd_sight.specs.Parts.{HasFor, HasOpen, KnownByNode, SentByNode, control_of, is_for, is_in, known_at, maybe_named, named, no_names, node_for, of_found, open_of, owned_by, part_of, rights_at, rights_held, sendable_at, served_by, served_in, with_right, with_rights}
-use Rattle.hurd_sight.specs.Looks.{Gathered, Looks, PartsAreSeen, could_write, puts_with, reads_with, sees_with, shows_root, shows_text, tells_empty, tells_text, writes_at}
+use Rattle.hurd_sight.specs.Looks.{Gathered, Looks, PartsAreSeen, could_write, puts_with, reads_with, sees_with, shows_root, shows_text, shows_total, tells_empty, tells_text, writes_at}
 use Rattle.hurd_sight.proofs.CouldLaws.{could_is_enough}
 use Rattle.hurd_sight.proofs.ReachLaws.{any_found, listed_task, ours, reach_is_gathered, owns_is, served_is}
 use Rattle.hurd_sight.proofs.SightLaws.{found_is_seen}
@@ -367,6 +367,31 @@ module _ (S : ℕ → Bool) (w : World) (v : Sight) (l : Looks S w v) where
         (and_from (is_some (fin.get w.servers s)) (is_in s v.sendable || is_in s v.rights.controlled) (ap is_some m.is_server) (sends_from s m.info m.is_server m.why)),
   )
 
+  -- why the total of a tree is seen: it has a limit, or S may set one
+
+  total_to : (s : Name) (i : ServerInfo) → server_at w s ≡ Some i → (is_some (limit_by (server_at w s)) || (is_in s v.sendable || is_in s v.rights.controlled)) ≡ true
+      → (is_some (limit_of i.kind i.text) ≡ true) ⊎ Sends S w s i
+  total_to s i is e = elim (or_cases (is_some (limit_by (server_at w s))) (is_in s v.sendable || is_in s v.rights.controlled) e) [
+    | inl limited ↦ inl (sym (ap (λ (o : Option ServerInfo). is_some (limit_by o)) is) ∙ limited)
+    | inr sent ↦ inr (sends_to s i is sent)
+  ]
+
+  total_from : (s : Name) (i : ServerInfo) → server_at w s ≡ Some i → (is_some (limit_of i.kind i.text) ≡ true) ⊎ Sends S w s i
+      → (is_some (limit_by (server_at w s)) || (is_in s v.sendable || is_in s v.rights.controlled)) ≡ true
+  total_from s i is (inl limited) =
+      or_left (is_some (limit_by (server_at w s))) (is_in s v.sendable || is_in s v.rights.controlled) (ap (λ (o : Option ServerInfo). is_some (limit_by o)) is ∙ limited)
+  total_from s i is (inr sends) = or_right (is_some (limit_by (server_at w s))) (is_in s v.sendable || is_in s v.rights.controlled) (sends_from s i is sends)
+
+  total_seen : (s : Name) → (sees_with (nodes_of w) v (seen.Total s) ≡ true) ↔ SeesTotal S w s
+  total_seen s = (
+    λ e. let p = and_parts (sees_with (nodes_of w) v (seen.Options s)) (shows_total (nodes_of w) v s) e in
+        let q = and_parts (tree_by (server_at w s)) (is_some (limit_by (server_at w s)) || (is_in s v.sendable || is_in s v.rights.controlled)) p.1 in
+        let i = tested tree_by refl (server_at w s) q.0 in
+        record { info = i.0; is_server = i.1; knows = (knows_seen s).0 p.0; tree = i.2; why = total_to s i.0 i.1 q.1 },
+    λ t. and_from (sees_with (nodes_of w) v (seen.Options s)) (shows_total (nodes_of w) v s) ((knows_seen s).1 t.knows)
+        (and_from (tree_by (server_at w s)) (is_some (limit_by (server_at w s)) || (is_in s v.sendable || is_in s v.rights.controlled)) (ap tree_by t.is_server ∙ t.tree) (total_from s t.info t.is_server t.why)),
+  )
+
   -- what the root of a server is, by the server of the node
   root_shape : (s root : Name) (i : ServerInfo) → home_at w root ≡ Some s → server_at w s ≡ Some i → shape_at (nodes_of w) root ≡ Some (root_of i.kind i.text)
   root_shape s root i home is = ap (λ (o : Option Name). shape_by (info_in w.servers o)) home ∙ ap shape_by is
@@ -410,4 +435,5 @@ parts_are_seen S w v (seen.Open o) l = l.opens o
 parts_are_seen S w v (seen.Options s) l = knows_seen S w v l s
 parts_are_seen S w v (seen.Text s) l = text_seen S w v l s
 parts_are_seen S w v (seen.Users s) l = users_seen S w v l s
+parts_are_seen S w v (seen.Total s) l = total_seen S w v l s
 parts_are_seen S w v (seen.Task t) l = (λ e. sym (l.tasks t.0) ∙ e, λ e. l.tasks t.0 ∙ e)

@@ -8,7 +8,7 @@ use Rattle.hurd_creds.specs.Bits.{READ, WRITE}
 use Rattle.hurd_creds.specs.Names.{same_name}
 use Rattle.hurd_trans_iface.specs.Nodes.{Header, header_of, is_dir}
 use Rattle.hurd_trans_iface.specs.declared.root.Root.{Root}
-use Rattle.hurd_nodes.specs.Shown.{NodeState, ServerInfo, boot_name, server_of}
+use Rattle.hurd_nodes.specs.Shown.{NodeState, ServerInfo, boot_name, limit_by, server_of, tree_by}
 use Rattle.hurd_nodes.specs.Held.{home_in, is_home}
 use Rattle.std.specs.Option.{option_map}
 use Rattle.hurd_nodes.specs.Needs.{counts_by}
@@ -82,6 +82,10 @@ abbrev pub shows_text : NodeState → Sight → Name → Option Name → Bool
 shows_text h v s None = false
 shows_text h v s (Some root) = (is_in s v.sendable || is_in s v.rights.controlled) || shows_root h v s root
 
+-- whether a server keeps a tree that has a limit, or that may be given one by what is seen of it
+abbrev pub shows_total : NodeState → Sight → Name → Bool
+shows_total h v s = tree_by (fin.get h.servers s) && (is_some (limit_by (fin.get h.servers s)) || (is_in s v.sendable || is_in s v.rights.controlled))
+
 -- whether a part is seen
 abbrev pub sees_with : NodeState → Sight → SeenPart → Bool
 sees_with h v (seen.Attributes n) = is_found n v.found
@@ -92,6 +96,7 @@ sees_with h v (seen.Open o) = is_in o v.rights.opens
 sees_with h v (seen.Options s) = is_in s v.known || is_in s v.rights.controlled
 sees_with h v (seen.Text s) = shows_text h v s (option_map (λ (i : ServerInfo). i.root) (fin.get h.servers s))
 sees_with h v (seen.Users s) = not (same_name s boot_name) && (is_some (fin.get h.servers s) && (is_in s v.sendable || is_in s v.rights.controlled))
+sees_with h v (seen.Total s) = (is_in s v.known || is_in s v.rights.controlled) && shows_total h v s
 sees_with h v (seen.Task t) = among v.tasks.items t.0
 
 -- a part is told exactly where S sees it, of the nodes that were looked at

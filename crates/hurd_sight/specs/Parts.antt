@@ -16,7 +16,7 @@ use Rattle.hurd_ports.specs.declared.table.Right.{Right}
 use Rattle.hurd_ports.specs.declared.table.Right.TheVariants.{Io, Control, Start}
 use Rattle.hurd_ports.specs.Tables.{OpenMap, Task, rights_of}
 use Rattle.hurd_machine.specs.World.{World, active_at, header_at, home_at, open_at, server_at}
-use Rattle.hurd_machine.specs.Sight.{CouldServe, Holds, OwnsIt, Part, AttrOf, EmptyOf, BodyOf, EndsOf, OpenOf, OptionsOf, TextOf, UsersOf, TaskOf, Seen, bare}
+use Rattle.hurd_machine.specs.Sight.{CouldServe, Holds, OwnsIt, Part, AttrOf, EmptyOf, BodyOf, EndsOf, OpenOf, OptionsOf, TextOf, UsersOf, TotalOf, TaskOf, Seen, bare}
 use Rattle.hurd_sight.specs.Reach.{serves}
 use Rattle.hurd_sight.specs.declared.found.Why.{Why}
 use Rattle.hurd_sight.specs.declared.held.RightNames.{RightNames}
@@ -33,6 +33,7 @@ part_of (seen.Open o) = OpenOf o
 part_of (seen.Options s) = OptionsOf s
 part_of (seen.Text s) = TextOf s
 part_of (seen.Users s) = UsersOf s
+part_of (seen.Total s) = TotalOf s
 part_of (seen.Task t) = TaskOf t.0
 
 -- whether a name is one of these

@@ -5,7 +5,7 @@ ghost use Rattle.hurd_nodes.specs.Shown.{header_in, shown, told_header};
 ghost use Rattle.hurd_machine.specs.World.{world_from};
 ghost use Rattle.hurd_trans_iface.specs.Texts.{goes_on, is_file, reads_text};
 ghost use Rattle.hurd_sight.specs.Parts.{is_in};
-ghost use Rattle.hurd_sight.specs.Looks.{Gathered, Looks, PartsAreSeen, puts_with, reads_with, sees_with, shows_root, tells_text, writes_at};
+ghost use Rattle.hurd_sight.specs.Looks.{Gathered, Looks, PartsAreSeen, puts_with, reads_with, sees_with, shows_root, shows_total, tells_text, writes_at};
 ghost use Rattle.hurd_sight.specs.Reach.{among};
 ghost use Rattle.hurd_sight.specs.declared.parts.SeenPart.TheVariants as seen;
 
@@ -106,6 +106,7 @@ impl Sight {
             SeenPart::Options(server) => self.knows(server),
             SeenPart::Text(server) => self.sees_text(nodes, server),
             SeenPart::Users(server) => self.may_send(nodes, server),
+            SeenPart::Total(server) => self.knows(server) && self.sees_total(nodes, server),
             SeenPart::Task(task) => self.has_task(task),
         }
     }
@@ -223,7 +224,14 @@ impl Sight {
         if nodes.root_of(server).is_none() {
             return false;
         }
-        self.sendable.has(server) || self.rights.controlled.has(server)
+        self.is_commanded(server)
+    }
+
+    /// Whether a server keeps a tree that has a limit, or that may be given one by what is seen of it.
+    fn sees_total<S: Server>(&self, nodes: &Nodes<S>, server: ServerName) -> bool
+        ensures { result ≡ shows_total (shown S.meaning nodes.now) self.now server }
+    {
+        nodes.total_of(server).is_some() && (nodes.has_limit(server) || self.is_commanded(server))
     }
 
     /// Whether a task is one of the set.

@@ -14,12 +14,14 @@ pub enum SeenPart {
     Ends(NodeName),
     /// An open, and how many rights hold it.
     Open(OpenName),
-    /// A server, but for its text, unless that is a link's.
+    /// A server, but for its text, unless that is a link's or a tree's.
     Options(ServerName),
     /// The text of a server.
     Text(ServerName),
     /// How many rights there are on a server's nodes.
     Users(ServerName),
+    /// What the files of a server that entries name have in all.
+    Total(ServerName),
     /// A task.
     Task(TaskId),
 }

@@ -70,6 +70,7 @@ module _ (tasks : List TaskId) (w : World) (a b : View) (in_a : Views tasks w a)
       (told_same _ _ _ _ (test (seen.Options n)) (λ on. refl))
       (told_same _ _ _ _ (test (seen.Text n)) (λ on. refl))
       (told_same _ _ _ _ (test (seen.Users n)) (λ on. refl))
+      (told_same _ _ _ _ (test (seen.Total n)) (λ on. refl))
 
   rows_same : a.rows ≡ b.rows
   rows_same =

@@ -1,15 +1,16 @@
 -- Views in which nothing differs are of worlds that have the same view, and no others.
 use Rattle.std.proofs.Common.{◌≡◌, ◌∙◌, inl, inr, sym, refl, ap, subst, ℕ, Bool, true, false, true≢false, List, [], ◌∷◌, map, take, cond, if◌then◌else◌}
-use Rattle.std.specs.Prelude.{◌↔◌, Option, Some, None, nat_eq}
+use Rattle.std.specs.Prelude.{◌↔◌, ◌||◌, Option, Some, None, nat_eq}
 use Rattle.std.specs.FinMap as fin
 use Rattle.std.specs.Option.{option_map}
 use Rattle.std.proofs.lemmas.Bool.{or_cases, or_left, or_right}
 use Rattle.std.proofs.lemmas.Slice.Eq.{bytes_eq-Decides}
 use Rattle.std.specs.Cmp.{unsigned_Decides}
-use Rattle.hurd_machine.proofs.Common.{ABody, AText, ATask, AUsers, AnAttr, AnEmpty, AnEnds, AnOpen, AnOptions, AreDistinct, AttrOf, Attrs, Body, BodyOf, Content, EmptyOf, EndsOf, HasDistinctNames, Header, IdSets, IsAmong, Listing, Name, Node, OpenOf, OptionsOf, Part, SameView, Sees, ServerInfo, Sound, Task, TaskId, TaskOf, TextOf, UsersOf, World, bare, body_at, bytes_eq, ends_at, entry_in, faced, header_at, holders, is_empty_dir, known_text, open_at, options_of, part, server_at, site_at, task_at, users, words_at, words_in}
+use Rattle.hurd_machine.proofs.Common.{ABody, AText, ATask, ATotal, AUsers, AnAttr, AnEmpty, AnEnds, AnOpen, AnOptions, AreDistinct, AttrOf, Attrs, Body, BodyOf, Content, EmptyOf, EndsOf, HasDistinctNames, Header, IdSets, IsAmong, Listing, Name, Node, OpenOf, OptionsOf, Part, SameView, Sees, SeesTotal, ServerInfo, Sound, Task, TaskId, TaskOf, TextOf, TotalOf, UsersOf, World, bare, body_at, bytes_eq, ends_at, entry_in, faced, header_at, holders, is_empty_dir, known_text, nodes_in, open_at, options_of, part, server_at, site_at, task_at, total_at, total_if, total_in, tree_by, users, words_at, words_in}
 use Rattle.hurd_machine.proofs.Faces.{face_in, face_reads, root_told, text_in, whole}
 use Rattle.hurd_machine.proofs.Views.{text_known}
 use Rattle.hurd_nodes.proofs.Sites.{home_by, active_by, site_by}
+use Rattle.hurd_trans_iface.specs.Answers.{is_tree}
 use Rattle.hurd_trans_iface.specs.Nodes.{Entry}
 use Rattle.hurd_trans_iface.specs.Meaning.{ServerKind, all_kinds, behaviour_of, root_of}
 use Rattle.hurd_trans_iface.specs.Texts.{is_link, told_text}
@@ -172,7 +173,7 @@ texts_told (Some i) (Some j) e = ap Some (ap (λ (r : TextRow). r.text) (let sam
 -- and nothing else of it is kept
 
 told_twice : (r : Root) (text : List ℕ) → told_text r (told_text r text) ≡ told_text r text
-told_twice r text = go (is_link r.crossing)
+told_twice r text = go (is_link r.crossing || is_tree r)
   where
     go : (b : Bool) → (if b then (if b then text else []) else []) ≡ (if b then text else [])
     go true = refl
@@ -192,10 +193,18 @@ rows_faced = face_reads (option_map server_row) (λ i. ap Some (row_faced i))
 
 -- a row by its fields
 pub row_from : {a a' : Option NodeRow} {b b' : Option (Option Bool)} {c c' : Option (Option BodyRow)} {m m' : Option (Option Ends)} {d d' : Option OpenRow} {e e' : Option (Option ServerRow)}
-    {f f' : Option (Option TextRow)} {g g' : Option ℕ} → a ≡ a' → b ≡ b' → c ≡ c' → m ≡ m' → d ≡ d' → e ≡ e' → f ≡ f' → g ≡ g'
-    → ◌≡◌ {A = Row} (record { attributes = a; empty = b; body = c; ends = m; opened = d; server = e; text = f; users = g })
-    (record { attributes = a'; empty = b'; body = c'; ends = m'; opened = d'; server = e'; text = f'; users = g' })
-row_from h i j k l m n o = rw (h, i, j, k, l, m, n, o) refl
+    {f f' : Option (Option TextRow)} {g g' t t' : Option ℕ} → a ≡ a' → b ≡ b' → c ≡ c' → m ≡ m' → d ≡ d' → e ≡ e' → f ≡ f' → g ≡ g' → t ≡ t'
+    → ◌≡◌ {A = Row} (record { attributes = a; empty = b; body = c; ends = m; opened = d; server = e; text = f; users = g; total = t })
+    (record { attributes = a'; empty = b'; body = c'; ends = m'; opened = d'; server = e'; text = f'; users = g'; total = t' })
+row_from h i j k l m n o p = rw (h, i, j, k, l, m, n, o, p) refl
+
+-- where the total of a server is seen, it is there
+
+abbrev sum_at : World → Name → ℕ
+sum_at w s = total_in (nodes_in w.nodes w.sites s)
+
+total_there : (S : ℕ → Bool) (w : World) (s : Name) → SeesTotal S w s → total_at w s ≡ Some (sum_at w s)
+total_there S w s t = ap (λ (b : Bool). total_if b (sum_at w s)) (ap tree_by t.is_server ∙ t.tree)
 
 -- tasks of a list
 
@@ -256,6 +265,7 @@ module _ (tasks : List TaskId) (v w : World) (a b : View) (sound_v : Sound v) (s
     test (seen.Options n) = told_test _ _ _ _ (ap (λ (r : Row). r.server) (row n))
     test (seen.Text n) = told_test _ _ _ _ (ap (λ (r : Row). r.text) (row n))
     test (seen.Users n) = told_test (sees_v (seen.Users n)) (sees_w (seen.Users n)) (users v n) (users w n) (ap (λ (r : Row). r.users) (row n))
+    test (seen.Total n) = told_test (sees_v (seen.Total n)) (sees_w (seen.Total n)) (sum_at v n) (sum_at w n) (ap (λ (r : Row). r.total) (row n))
     test (seen.Task t) = test_same _ _ (λ on. (says_w (seen.Task t)).1 ((says_v (seen.Task t)).0 on)) (λ on. (says_v (seen.Task t)).1 ((says_w (seen.Task t)).0 on))
 
     sees_same : (q : SeenPart) → Sees S v (part_of q) ↔ Sees S w (part_of q)
@@ -277,6 +287,12 @@ module _ (tasks : List TaskId) (v w : World) (a b : View) (sound_v : Sound v) (s
         sym (bodies_back (fin.get v.nodes n) (distinct_v n))
         ∙ (ap (option_map body_from) e ∙ bodies_back (fin.get w.nodes n) (distinct_w n))
 
+    total_same : (n : Name) → sees_v (seen.Total n) ≡ true → total_at v n ≡ total_at w n
+    total_same n on =
+        total_there S v n ((says_v (seen.Total n)).0 on)
+        ∙ (ap Some (told_value (sees_v (seen.Total n)) (sees_w (seen.Total n)) (sum_at v n) (sum_at w n) (ap (λ (r : Row). r.total) (row n)) on)
+        ∙ sym (total_there S w n ((says_w (seen.Total n)).0 (sym (test (seen.Total n)) ∙ on))))
+
     value : (q : SeenPart) → sees_v q ≡ true → part w (part_of q) ≡ part v (part_of q)
     value (seen.Attributes n) on = attr_same n (told_value _ _ _ _ (ap (λ (r : Row). r.attributes) (row n)) on)
     value (seen.Empty n) on = ap AnEmpty (sym (told_value _ _ _ _ (ap (λ (r : Row). r.empty) (row n)) on))
@@ -286,6 +302,7 @@ module _ (tasks : List TaskId) (v w : World) (a b : View) (sound_v : Sound v) (s
     value (seen.Options n) on = ap AnOptions (sym (faces_told _ _ (told_value _ _ _ _ (ap (λ (r : Row). r.server) (row n)) on)))
     value (seen.Text n) on = ap AText (sym (texts_told _ _ (told_value _ _ _ _ (ap (λ (r : Row). r.text) (row n)) on)))
     value (seen.Users n) on = ap AUsers (sym (told_value (sees_v (seen.Users n)) (sees_w (seen.Users n)) (users v n) (users w n) (ap (λ (r : Row). r.users) (row n)) on))
+    value (seen.Total n) on = ap ATotal (sym (total_same n on))
     value (seen.Task t) on = ap ATask (sym (seat_told v w tasks t.0 (sym in_v.seats ∙ (same.seats ∙ in_w.seats)) ((says_v (seen.Task t)).0 on)))
 
     all_seen : (p : Part) → Sees S v p ↔ Sees S w p
@@ -297,6 +314,7 @@ module _ (tasks : List TaskId) (v w : World) (a b : View) (sound_v : Sound v) (s
     all_seen (OptionsOf s) = sees_same (seen.Options s)
     all_seen (TextOf s) = sees_same (seen.Text s)
     all_seen (UsersOf s) = sees_same (seen.Users s)
+    all_seen (TotalOf s) = sees_same (seen.Total s)
     all_seen (TaskOf t) = (λ s. s, λ s. s)
 
     all_same : (p : Part) → Sees S v p → part w p ≡ part v p
@@ -308,6 +326,7 @@ module _ (tasks : List TaskId) (v w : World) (a b : View) (sound_v : Sound v) (s
     all_same (OptionsOf s) k = value (seen.Options s) ((says_v (seen.Options s)).1 k)
     all_same (TextOf s) k = value (seen.Text s) ((says_v (seen.Text s)).1 k)
     all_same (UsersOf s) k = value (seen.Users s) ((says_v (seen.Users s)).1 k)
+    all_same (TotalOf s) k = value (seen.Total s) ((says_v (seen.Total s)).1 k)
     all_same (TaskOf t) s = ap ATask (sym (seat_told v w tasks t (sym in_v.seats ∙ (same.seats ∙ in_w.seats)) s))
 
     same_view : SameView S v w
@@ -338,6 +357,15 @@ module _ (tasks : List TaskId) (v w : World) (a b : View) (sound_v : Sound v) (s
         let text : text_in (server_at v n) ≡ text_in (server_at w n) = let e : AText (text_in (server_at w n)) ≡ AText (text_in (server_at v n)) = equal (seen.Text n) on in cc in
         whole (server_at w n) (server_at v n) (face_same n known) text
 
+    sum_same : (n : Name) → sees_v (seen.Total n) ≡ true → sum_at v n ≡ sum_at w n
+    sum_same n on =
+        let e : ATotal (total_at w n) ≡ ATotal (total_at v n) = equal (seen.Total n) on in
+        let total : total_at v n ≡ total_at w n = cc in
+        let sums : Some (sum_at v n) ≡ Some (sum_at w n) =
+        sym (total_there S v n ((says_v (seen.Total n)).0 on))
+        ∙ (total ∙ total_there S w n ((says_w (seen.Total n)).0 (sym (both (seen.Total n)) ∙ on))) in
+        cc
+
     row_same : (n : Name) → row_of v a.sight n ≡ row_of w b.sight n
     row_same n =
         row_from
@@ -349,6 +377,7 @@ module _ (tasks : List TaskId) (v w : World) (a b : View) (sound_v : Sound v) (s
         (told_same _ _ _ _ (both (seen.Options n)) (λ on. rows_faced (server_at w n) (server_at v n) (face_same n on)))
         (told_same _ _ _ _ (both (seen.Text n)) (λ on. ap (option_map text_row) (server_same n on)))
         (told_same _ _ _ _ (both (seen.Users n)) (λ on. let e : AUsers (users w n) ≡ AUsers (users v n) = equal (seen.Users n) on in cc))
+        (told_same (sees_v (seen.Total n)) (sees_w (seen.Total n)) (sum_at v n) (sum_at w n) (both (seen.Total n)) (sum_same n))
 
     same_rows : SameRows a b
     same_rows = record {

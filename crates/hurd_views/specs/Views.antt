@@ -9,7 +9,8 @@ use Rattle.hurd_creds.specs.Names.{same_name}
 use Rattle.hurd_trans_iface.specs.Nodes.{Body, Content, Listing, is_empty_dir}
 use Rattle.hurd_trans_iface.specs.Answers.{entry_of}
 use Rattle.hurd_trans_iface.specs.Meaning.{options_of}
-use Rattle.hurd_nodes.specs.Shown.{ServerInfo}
+use Rattle.hurd_trans_iface.specs.Totals.{total_in}
+use Rattle.hurd_nodes.specs.Shown.{ServerInfo, nodes_in}
 use Rattle.hurd_machine.specs.World.{World, nodes_of, active_at, body_at, ends_at, header_at, home_at, open_at, server_at, task_at, words_at}
 use Rattle.hurd_machine.specs.Sight.{SameView, bare, holders, known_text, users}
 use Rattle.hurd_machine.specs.Sound.{Sound}
@@ -91,11 +92,20 @@ row_of w v n = record {
   server = told_if (sees_with (nodes_of w) v (seen.Options n)) (option_map server_row (server_at w n));
   text = told_if (sees_with (nodes_of w) v (seen.Text n)) (option_map text_row (server_at w n));
   users = told_if (sees_with (nodes_of w) v (seen.Users n)) (users w n);
+  total = told_if (sees_with (nodes_of w) v (seen.Total n)) (total_in (nodes_in w.nodes w.sites n));
 }
+
+-- rows that are the same, in two parts
+
+abbrev pub HaveSameNode : Row → Row → Type 0
+HaveSameNode a b = (a.attributes ≡ b.attributes) × (a.empty ≡ b.empty) × (a.body ≡ b.body) × (a.ends ≡ b.ends) × (a.opened ≡ b.opened)
+
+abbrev pub HaveSameServer : Row → Row → Type 0
+HaveSameServer a b = (a.server ≡ b.server) × (a.text ≡ b.text) × (a.users ≡ b.users) × (a.total ≡ b.total)
 
 -- nothing is seen
 abbrev pub no_row : Row
-no_row = record { attributes = None; empty = None; body = None; ends = None; opened = None; server = None; text = None; users = None }
+no_row = record { attributes = None; empty = None; body = None; ends = None; opened = None; server = None; text = None; users = None; total = None }
 
 -- what there is under a name; of a name that isn't there, nothing is seen
 abbrev pub row_at : List (Name × Row) → Name → Row

@@ -1,6 +1,6 @@
 //! What is seen of things that have a name, as it can be kept and compared.
 ghost use Rattle.std.specs.Prelude.{◌≡◌, ◌↔◌, IfOk, IsTrue};
-ghost use Rattle.hurd_views.specs.Views.{HaveSameAccess, HaveSameMarks, HaveSamePlace, no_row};
+ghost use Rattle.hurd_views.specs.Views.{HaveSameAccess, HaveSameMarks, HaveSameNode, HaveSamePlace, HaveSameServer, no_row};
 
 use hurd_creds::{Attrs, Bytes, Ids, Name, NodeName, Same, ServerName, all_same};
 use hurd_ports::{Ends, Opened};
@@ -77,7 +77,7 @@ impl Model for NodeNames {
 pub struct ServerRow {
     /// The name of its program.
     pub program: Bytes,
-    /// Its text, if it is a link; else none.
+    /// Its text, if it is a link or a tree; else none.
     pub text: Bytes,
     pub root: NodeName,
     pub ids: Ids,
@@ -108,6 +108,8 @@ pub struct Row {
     pub text: Option<Option<TextRow>>,
     /// How many rights there are on a server's nodes.
     pub users: Option<u128>,
+    /// What the files of a server that entries name have in all.
+    pub total: Option<u128>,
 }
 
 impl EntryRows {
@@ -301,14 +303,28 @@ impl Row {
     pub fn is_same(&self, other: &Row) -> bool
         ensures { IsTrue result ↔ (self.now ≡ other.now) }
     {
+        self.has_same_node(other) && self.has_same_server(other)
+    }
+
+    /// Whether these say the same of a node or an open.
+    fn has_same_node(&self, other: &Row) -> bool
+        ensures { IsTrue result ↔ HaveSameNode self.now other.now }
+    {
         self.attributes.same(&other.attributes)
             && self.empty == other.empty
             && self.body.same(&other.body)
             && self.ends == other.ends
             && self.opened == other.opened
-            && self.server.same(&other.server)
+    }
+
+    /// Whether these say the same of a server.
+    fn has_same_server(&self, other: &Row) -> bool
+        ensures { IsTrue result ↔ HaveSameServer self.now other.now }
+    {
+        self.server.same(&other.server)
             && self.text.same(&other.text)
             && self.users == other.users
+            && self.total == other.total
     }
 }
 
@@ -325,5 +341,6 @@ impl Row {
             && self.server.is_none()
             && self.text.is_none()
             && self.users.is_none()
+            && self.total.is_none()
     }
 }

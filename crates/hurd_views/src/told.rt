@@ -39,6 +39,7 @@ pub(crate) fn row_of<S: Server>(
         server: server_of(alloc, core, sight, name)?,
         text: text_of(alloc, core, sight, name)?,
         users: users_of(core, sight, name),
+        total: total_of(core, sight, name),
     })
 }
 
@@ -341,4 +342,14 @@ fn users_of<S: Server>(core: &Core<S>, sight: &Sight, name: Name) -> Option<u128
         return None;
     }
     Some(core.users(name))
+}
+
+/// What the files of a server that entries name have in all, if that is seen.
+fn total_of<S: Server>(core: &Core<S>, sight: &Sight, name: Name) -> Option<u128>
+    ensures { result ≡ (row_of (world_of S.meaning core.now) sight.now name).total }
+{
+    if !sight.sees(core.nodes(), SeenPart::Total(name)) {
+        return None;
+    }
+    core.nodes().total_of(name)
 }

@@ -1,5 +1,5 @@
 use Rattle.std.proofs.Common.{◌∙◌, ap}
-use Rattle.hurd_lessons.specs.Lessons.{note_body, note_empty, note_ends, note_node, note_open, note_server, note_text, note_users}
+use Rattle.hurd_lessons.specs.Lessons.{note_body, note_empty, note_ends, note_node, note_open, note_server, note_text, note_total, note_users}
 use Rattle.hurd_lessons.proofs.differences.parts.Goals as goal
 
 pub returns : goal.returns
@@ -9,7 +9,9 @@ returns c =
     let x = c.args.old.now in
     let y = c.args.new.now in
     let d = c.args.change.now in
-    c.in_ok-note_users.ensures
+    c.in_ok-note_number-2.ensures
+    ∙ ap (note_total x y d)
+    (c.in_ok-note_number.ensures
     ∙ ap (note_users x y d)
     (c.in_ok-note_text.ensures
     ∙ ap (note_text x y d)
@@ -22,4 +24,4 @@ returns c =
     (c.in_ok-note_body.ensures
     ∙ ap (note_body x y d)
     ((rw c.ends_beside.ensures at c.in_ok-note_ends.ensures)
-    ∙ ap (note_ends x y d) (c.in_ok-note_node.ensures ∙ ap (note_node a b x y d) c.new-words.ensures.items)))))))
+    ∙ ap (note_ends x y d) (c.in_ok-note_node.ensures ∙ ap (note_node a b x y d) c.new-words.ensures.items))))))))

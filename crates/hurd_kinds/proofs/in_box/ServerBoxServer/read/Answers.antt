@@ -15,8 +15,8 @@ returns-in-Fixed-clause-steps c =
 
 pub returns-in-Tmpfs-clause-steps : goal.returns-in-Tmpfs-clause-steps
 unfolding box_meaning
-returns-in-Tmpfs-clause-steps c = stepped_as (step_of (reading c.args.at c.args.amount c.args.writers) c.args.node) (ap box_meaning c.in-Tmpfs.is ∙ ap tree (sym c.deref_mut-in-Tmpfs.ensures.value)) c.read-in-Tmpfs.ensures.steps
+returns-in-Tmpfs-clause-steps c = stepped_as (step_of (reading c.args.at c.args.amount c.args.writers) c.args.node) (ap box_meaning c.in-Tmpfs.is ∙ ap tree (sym c.deref_mut.ensures.value)) c.read.ensures.steps
 
 pub returns-in-Tmpfs-clause-nothing : goal.returns-in-Tmpfs-clause-nothing
 unfolding box_meaning
-returns-in-Tmpfs-clause-nothing c = known_as (λ (m : Meaning). (step_of (reading c.args.at c.args.amount c.args.writers) c.args.node m).0 ≡ Ok [] → c.read-in-Tmpfs.result ≡ Ok []) (ap box_meaning c.in-Tmpfs.is ∙ ap tree (sym c.deref_mut-in-Tmpfs.ensures.value)) c.read-in-Tmpfs.ensures.nothing
+returns-in-Tmpfs-clause-nothing c = known_as (λ (m : Meaning). (step_of (reading c.args.at c.args.amount c.args.writers) c.args.node m).0 ≡ Ok [] → c.read.result ≡ Ok []) (ap box_meaning c.in-Tmpfs.is ∙ ap tree (sym c.deref_mut.ensures.value)) c.read.ensures.nothing

@@ -13,4 +13,4 @@ returns-in-Drip c =
 
 pub returns-in-Tmpfs : goal.returns-in-Tmpfs
 unfolding box_meaning
-returns-in-Tmpfs c = stepped_as (rename_step c.args.dir c.args.name.now c.args.to c.args.new.now) (ap box_meaning c.in-Tmpfs.is ∙ ap tree (sym c.deref_mut-in-Tmpfs.ensures.value)) c.rename-in-Tmpfs.ensures
+returns-in-Tmpfs c = stepped_as (rename_step c.args.dir c.args.name.now c.args.to c.args.new.now) (ap box_meaning c.in-Tmpfs.is ∙ ap tree (sym c.deref_mut.ensures.value)) c.rename.ensures

@@ -21,12 +21,12 @@ returns-in-Drip-clause-steps c =
 
 pub returns-in-Tmpfs-clause-steps : goal.returns-in-Tmpfs-clause-steps
 unfolding box_meaning
-returns-in-Tmpfs-clause-steps c = stepped_as (step_of (writing c.args.at c.args.bytes.now c.args.readers) c.args.node) (ap box_meaning c.in-Tmpfs.is ∙ ap tree (sym c.deref_mut-in-Tmpfs.ensures.value)) c.write-in-Tmpfs.ensures.steps
+returns-in-Tmpfs-clause-steps c = stepped_as (step_of (writing c.args.at c.args.bytes.now c.args.readers) c.args.node) (ap box_meaning c.in-Tmpfs.is ∙ ap tree (sym c.deref_mut.ensures.value)) c.write.ensures.steps
 
 pub returns-in-Tmpfs-clause-within : goal.returns-in-Tmpfs-clause-within
 unfolding box_meaning
-returns-in-Tmpfs-clause-within c = known_as (λ (m : Meaning). Reaches (body_of m.nodes c.args.node) (c.args.at + length c.args.bytes.now) → c.write-in-Tmpfs.result ≡ (step_of (writing c.args.at c.args.bytes.now c.args.readers) c.args.node m).0) (ap box_meaning c.in-Tmpfs.is ∙ ap tree (sym c.deref_mut-in-Tmpfs.ensures.value)) c.write-in-Tmpfs.ensures.within
+returns-in-Tmpfs-clause-within c = known_as (λ (m : Meaning). Reaches (body_of m.nodes c.args.node) (c.args.at + length c.args.bytes.now) → c.write.result ≡ (step_of (writing c.args.at c.args.bytes.now c.args.readers) c.args.node m).0) (ap box_meaning c.in-Tmpfs.is ∙ ap tree (sym c.deref_mut.ensures.value)) c.write.ensures.within
 
 pub returns-in-Tmpfs-clause-nothing : goal.returns-in-Tmpfs-clause-nothing
 unfolding box_meaning
-returns-in-Tmpfs-clause-nothing c = known_as (λ (m : Meaning). c.args.bytes.now ≡ [] → c.write-in-Tmpfs.result ≡ (step_of (writing c.args.at c.args.bytes.now c.args.readers) c.args.node m).0) (ap box_meaning c.in-Tmpfs.is ∙ ap tree (sym c.deref_mut-in-Tmpfs.ensures.value)) c.write-in-Tmpfs.ensures.nothing
+returns-in-Tmpfs-clause-nothing c = known_as (λ (m : Meaning). c.args.bytes.now ≡ [] → c.write.result ≡ (step_of (writing c.args.at c.args.bytes.now c.args.readers) c.args.node m).0) (ap box_meaning c.in-Tmpfs.is ∙ ap tree (sym c.deref_mut.ensures.value)) c.write.ensures.nothing
