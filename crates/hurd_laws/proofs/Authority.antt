@@ -31,7 +31,7 @@ use Rattle.hurd_io.proofs.Touching.{Touches, read_touches, write_touches}
 use Rattle.hurd_files.specs.Files.{set_size_asks, touches_set_size}
 use Rattle.hurd_files.specs.Access.{gives, setting_asks, touches_chmod, touches_chown}
 use Rattle.hurd_files.proofs.AccessLaws.{may_set}
-use Rattle.hurd_laws.specs.Integrity.{HasOpen, IsFileOf, Owns, Owned, MayChange, ByOpens, BySize, Sized, Written, Drained, ToWrite, ToDrain}
+use Rattle.hurd_laws.specs.Integrity.{HasOpen, Owns, Owned, MayChange, ByOpens, BySize, Sized, Written, Drained, ToWrite, ToDrain}
 
 -- of a call of task t: what it touches, whoever has the task may change
 abbrev pub Allowed : ℕ → (World → Part → Type 0) → Type 0
