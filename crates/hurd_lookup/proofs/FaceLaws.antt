@@ -1,7 +1,8 @@
 -- What a lookup asks of a server goes by what is seen of it: a link alone leads on by its text.
-use Rattle.std.proofs.Common.{◌≡◌, ◌∙◌, if◌then◌else◌, List, [], Option, Some, None, refl, ap, ℕ}
+use Rattle.std.proofs.Common.{◌≡◌, ◌∙◌, ◌||◌, Bool, if◌then◌else◌, List, [], Option, Some, None, refl, ap, ℕ}
 use Rattle.std.specs.Prelude.{Result, Ok}
 use Rattle.hurd_trans_iface.specs.Kinds.{ServerKind}
+use Rattle.hurd_trans_iface.specs.Answers.{is_tree}
 use Rattle.hurd_trans_iface.specs.Texts.{is_link}
 use Rattle.hurd_trans_iface.specs.declared.root.Crossing.{Crossing}
 use Rattle.hurd_trans_iface.specs.declared.root.Crossing.TheVariants.{Plain, Link, Firm, Union}
@@ -20,13 +21,13 @@ branches_face = face_reads branches_by (λ i. ap (λ (x : Root). branches x.cros
 
 crossing_face : (w : World) (q : Authority) (r : Request) (d root : Name) (names : List (List ℕ)) (k : ServerKind) (i : ServerInfo)
     → let j : ServerInfo = with_text (known_text k i.text) i in crossing w (root_of k (known_text k i.text)).crossing q r d root j names ≡ crossing w (root_of k i.text).crossing q r d root i names
-crossing_face w q r d root names k i = ap (λ (x : Root). crossing w x.crossing q r d root (with_text (known_text k i.text) i) names) (root_told k i.text) ∙ led (root_of k i.text).crossing
+crossing_face w q r d root names k i = ap (λ (x : Root). crossing w x.crossing q r d root (with_text (known_text k i.text) i) names) (root_told k i.text) ∙ led (root_of k i.text).crossing (is_tree (root_of k i.text))
   where
-    led : (c : Crossing) → crossing w c q r d root (with_text (if is_link c then i.text else []) i) names ≡ crossing w c q r d root i names
-    led Plain = refl
-    led (Link absolute) = refl
-    led Firm = refl
-    led Union = refl
+    led : (c : Crossing) (kept : Bool) → crossing w c q r d root (with_text (if is_link c || kept then i.text else []) i) names ≡ crossing w c q r d root i names
+    led Plain kept = refl
+    led (Link absolute) kept = refl
+    led Firm kept = refl
+    led Union kept = refl
 
 abbrev pub crossed_by : World → Authority → Request → Name → Name → List (List ℕ) → Option Header → Option ServerInfo → Result Place Errno
 crossed_by w q r d root names o s = first (on EDIED o (λ h. on EDIED s (λ i. Ok i))) (λ i. crossing w (root_of i.kind i.text).crossing q r d root i names)
