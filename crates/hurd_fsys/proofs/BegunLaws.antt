@@ -1,6 +1,6 @@
 -- A server that begins: its root's shape, size, and how it hangs, and how it comes.
 use Rattle.std.proofs.Common.{Option, Some, None, not, [], ◌∷◌, ap, ◌≡◌, ◌≢◌, ◌∙◌, ℕ, Bool, true, false, true≢false, if◌then◌else◌, List, refl, sym}
-use Rattle.hurd_machine.proofs.Common.{Attach, AttrOf, BodyOf, Dir, DropServer, EOVERFLOW, ESRCH, EmptyOf, EndsOf, Header, IsShaped, Kind, Meaning, Mode, Name, Node, OptionsOf, Part, ServerInfo, Task, TaskOf, TextOf, World, active_at, begun_info, begun_root, boot_name, empty_body, fresh, given, header_at, home_at, is_dir, is_home, is_other, is_plain, is_tree, on, task_at}
+use Rattle.hurd_machine.proofs.Common.{Attach, AttrOf, BodyOf, Dir, DropServer, EOVERFLOW, ESRCH, EmptyOf, EndsOf, Header, IsShaped, Kind, Meaning, Mode, Name, Node, OptionsOf, Part, ServerInfo, Task, TaskOf, TextOf, TotalOf, World, active_at, begun_info, begun_root, boot_name, empty_body, fresh, given, header_at, home_at, is_dir, is_home, is_other, is_plain, is_tree, on, task_at}
 use Rattle.hurd_trans_iface.specs.declared.root.Root.{Root}
 use Rattle.hurd_trans_iface.specs.Meaning.{root_of}
 use Rattle.hurd_trans_iface.proofs.BodyLaws.{begun_has, begun_holds}
