@@ -1,6 +1,6 @@
 -- The laws of one step, from those of each call: each call has a line.
 use Rattle.std.proofs.Common.{ℕ, sym}
-use Rattle.hurd_machine.proofs.Common.{AttrOf, BodyOf, Call, EmptyOf, EndsOf, OpenOf, OptionsOf, Part, TaskOf, TextOf, UsersOf, World, box_in}
+use Rattle.hurd_machine.proofs.Common.{AttrOf, BodyOf, Call, EmptyOf, EndsOf, OpenOf, OptionsOf, Part, TaskOf, TextOf, TotalOf, UsersOf, World, box_in}
 use Rattle.hurd_machine.specs.declared.call.Call.TheVariants.{PortDeallocate, PortSend, PortReceive, AuthMakeauth, DirLookup, IoRead, IoWrite, IoSeek, IoStat, IoReadable, IoGetOpenmodes, IoSetAllOpenmodes, IoDuplicate, IoReauthenticate, IoRestrictAuth, IoIdentity, FileSetSize, FileChmod, FileChown, FileCheckAccess, FileSetTranslator, FileGetTranslator, FileGetTranslatorCntl, FileGetcontrol, FsysStartup, StartFailed, FsysGetroot, FsysGoaway, FsysGetOptions, FsysSetOptions, DirReaddir, DirMkdir, DirRmdir, DirUnlink, DirLink, DirMkfile, DirRename}
 use Rattle.hurd_machine.proofs.Frame.{IsUnnamed, gone_kept}
 use Rattle.hurd_machine.proofs.CallLaws.{CallLaws, returning_laws}

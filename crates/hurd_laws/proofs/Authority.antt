@@ -1,21 +1,26 @@
 -- What each call touches, its caller may change.
-use Rattle.std.proofs.Common.{◌≡◌, ◌⊎◌, ◌∙◌, ◌||◌, ◌&&◌, ◌==◌, ℕ, ℤ, Bool, true, false, true≢false, List, Option, Some, None, refl, sym, ap, subst, inl, inr}
+use Rattle.std.proofs.Common.{◌≡◌, ◌≢◌, ◌⊎◌, ◌∙◌, ◌||◌, ◌&&◌, ◌==◌, ◌<◌, ℕ, ℤ, Bool, true, false, true≢false, if◌then◌else◌, nat_lt, List, Option, Some, None, refl, sym, ap, subst, inl, inr, arith}
+use Rattle.std.proofs.lemmas.Bool.Decides.{nat_tests}
 use Rattle.std.specs.Prelude.{Result, Ok, Err}
 use Rattle.hurd_creds.specs.declared.attrs.Attrs.{Attrs}
 use Rattle.hurd_creds.specs.Access.{is_root, holds_uid, holds_gid}
-use Rattle.hurd_trans_iface.specs.Nodes.{Node}
-use Rattle.hurd_trans_iface.specs.Behaviour.{reading}
+use Rattle.hurd_trans_iface.specs.Nodes.{Header, Node, is_dir}
+use Rattle.hurd_trans_iface.specs.Behaviour.{reading, size_left}
+use Rattle.hurd_trans_iface.specs.Totals.{counts_for}
+use Rattle.hurd_trans_iface.specs.Kinds.{ServerKind, Tmpfs, behaviour_of}
+use Rattle.hurd_trans_iface.specs.Meaning.{keeps_tree, root_of}
 use Rattle.hurd_trans_iface.proofs.Goods.{good}
 use Rattle.hurd_nodes.specs.Needs.{streams_by}
-use Rattle.hurd_nodes.specs.Shown.{ServerInfo, asked_of}
-use Rattle.hurd_machine.proofs.Common.{AttrOf, BodyOf, Control, Did, EndsOf, Errno, Holds, IdSets, Io, Mode, Name, Named, OnDid, OnDrop, OnRight, OpenFlags, OpenOf, Part, Question, READ, Right, Seen, Sound, Start, TaskOf, UsersOf, WRITE, World, asked_at, asked_parts, bare, handle_asks, info_at, owns, port_asks, ports_of, stream_at}
+use Rattle.hurd_nodes.specs.Shown.{ServerInfo, asked_of, tree_by}
+use Rattle.hurd_machine.proofs.Common.{AttrOf, BodyOf, Control, Did, EndsOf, Errno, Holds, IdSets, Io, Mode, Name, Named, OnDid, OnDrop, OnRight, OpenFlags, OpenOf, Part, Question, READ, Right, Seen, Sound, Start, TaskOf, TotalOf, UsersOf, WRITE, World, asked_at, asked_parts, bare, handle_asks, info_at, owns, port_asks, ports_of, space_at, stream_at}
 use Rattle.hurd_machine.specs.World.{node_at}
 use Rattle.hurd_machine.specs.declared.handle.Handle.{Handle}
 use Rattle.hurd_machine.specs.declared.call.Whence.{Whence}
-use Rattle.hurd_machine.specs.Touched.{OnNode, Changes}
+use Rattle.hurd_machine.specs.Touched.{Changes, OnNode, OnTotal, Resizes}
 use Rattle.hurd_machine.specs.Handle.{any_mode}
 use Rattle.hurd_machine.specs.Sight.{Held}
 use Rattle.hurd_ports.specs.Tables.{right_of}
+use Rattle.hurd_machine.proofs.Spaces.{effect_fits}
 use Rattle.hurd_machine.proofs.Asks.{first_ok, given_ok, holds_right, handled, is_named, IsNamed}
 use Rattle.hurd_rights.specs.Rights.{touches_deallocate, touches_send}
 use Rattle.hurd_core.specs.Core.{send_asks}
@@ -26,7 +31,7 @@ use Rattle.hurd_io.proofs.Touching.{Touches, read_touches, write_touches}
 use Rattle.hurd_files.specs.Files.{set_size_asks, touches_set_size}
 use Rattle.hurd_files.specs.Access.{gives, setting_asks, touches_chmod, touches_chown}
 use Rattle.hurd_files.proofs.AccessLaws.{may_set}
-use Rattle.hurd_laws.specs.Integrity.{HasOpen, Owns, Owned, MayChange, ByOpens, Sized, Written, Drained, ToWrite, ToDrain}
+use Rattle.hurd_laws.specs.Integrity.{HasOpen, Owns, Owned, MayChange, ByOpens, BySize, Sized, Written, Drained, ToWrite, ToDrain}
 
 -- of a call of task t: what it touches, whoever has the task may change
 abbrev pub Allowed : ℕ → (World → Part → Type 0) → Type 0
@@ -87,13 +92,30 @@ module _ {S : ℕ → Bool} {w : World} (t : ℕ) (ours : S t ≡ true) (p mode 
   open_may : MayChange S w (OpenOf a.open_name)
   open_may = let by = handled w t p mode a is in (by.right, holds_right t ours p (Io by.right) by.is_right, sym by.open_name)
 
-wrote_may : {S : ℕ → Bool} {w : World} {T : Type 0} (n : Name) (d : Did T) → HasOpen S w n WRITE → (p : Part) → OnDid n d p → MayChange S w p
+-- what comes to count for more or for less by its size is a file that an entry names
+resized_named : (size : Option ℕ) (h : Header) → counts_for (size_left size h) ≢ counts_for h → (is_dir h.kind ≡ false) × (0 < h.links)
+resized_named None h apart = absurd (apart refl)
+resized_named (Some k) h apart = by (is_dir h.kind) (nat_lt 0 h.links) refl refl apart
+  where
+    by : (b c : Bool) → is_dir h.kind ≡ b → nat_lt 0 h.links ≡ c → (if b then 0 else if c then k else 0) ≢ (if b then 0 else if c then h.size else 0) → (is_dir h.kind ≡ false) × (0 < h.links)
+    by true c dir some apart = absurd (apart refl)
+    by false false file none apart = absurd (apart refl)
+    by false true file some apart = (file, grind (arith, nat_tests))
+
+-- which S may write
+total_may : {S : ℕ → Bool} {w : World} (n : Name) (size : Option ℕ) → HasOpen S w n WRITE → (p : Part) → Resizes w n (size_left size) → OnTotal w n p → MayChange S w p
+total_may {S} {w} n size h p resizes on =
+    let named = resized_named size resizes.0 resizes.2 in
+    may_at S w p (TotalOf on.0) on.3 (BySize n resizes.0 (record { home = on.1; is_header = resizes.1; file = named.0 }) named.1 h)
+
+wrote_may : {S : ℕ → Bool} {w : World} {T : Type 0} (n : Name) (d : Did T) → HasOpen S w n WRITE → (p : Part) → OnDid w n d p → MayChange S w p
 wrote_may {S} {w} n d h p (inl on) = may_at S w p (BodyOf n) on.1 (ToWrite h)
-wrote_may {S} {w} n d h p (inr on) = may_at S w p (AttrOf n) on.1 (Sized (Written h))
+wrote_may {S} {w} n d h p (inr (inl on)) = may_at S w p (AttrOf n) on.1 (Sized (Written h))
+wrote_may {S} {w} n d h p (inr (inr on)) = total_may n d.size h p on.0 on.1
 
 -- what the server does to a node, or the cursor of its open
 io_may : {S : ℕ → Bool} {w : World} {T : Type 0} (t : ℕ) → S t ≡ true → (p mode : ℕ) (q : _ → Question T) (k : Part) → (u : Touches w t p mode q k)
-    → ((d : Did T) → HasOpen S w u.handle.node mode → (a : _) → asked_at (q a) u.handle.node w ≡ Ok d → OnDid u.handle.node d k → MayChange S w k) → MayChange S w k
+    → ((d : Did T) → HasOpen S w u.handle.node mode → (a : _) → asked_at (q a) u.handle.node w ≡ Ok d → OnDid w u.handle.node d k → MayChange S w k) → MayChange S w k
 io_may {S} {w} t ours p mode q k u did = elim u.on [
   | inl on ↦ did on.1 (has_open t ours p mode u.handle u.is_handle) on.0 on.2 on.3
   | inr e ↦ may_at S w k (OpenOf u.handle.open_name) e (open_may t ours p mode u.handle u.is_handle)
@@ -109,10 +131,10 @@ write_may t p bytes offset S w s ours k on =
 asked_keeps : (w : World) (n : Name) (at amount writers : ℕ) (d : Did (List ℕ)) → asked_at (reading at amount writers) n w ≡ Ok d → stream_at w n ≡ false → (d.bytes ≡ None) × (d.size ≡ None)
 asked_keeps w n at amount writers d is lone = by (info_at w n) (node_at w n) is lone
   where
-    by : (i : Option ServerInfo) (x : Option Node) → asked_of (reading at amount writers) i x ≡ Ok d → streams_by i ≡ false → (d.bytes ≡ None) × (d.size ≡ None)
+    by : (i : Option ServerInfo) (x : Option Node) → asked_of (reading at amount writers) i (space_at w n) x ≡ Ok d → streams_by i ≡ false → (d.bytes ≡ None) × (d.size ≡ None)
     by None x e l = absurd (cc (e))
     by (Some i) None e l = absurd (cc (e))
-    by (Some i) (Some x) e l = (good i.kind).read_keeps i.text l x at amount writers d e
+    by (Some i) (Some x) e l = (good i.kind).read_keeps i.text l x at amount writers d (effect_fits (space_at w n) x.header ((behaviour_of i.kind).read i.text x at amount writers) d e)
 
 -- what it changes was open to read, of a stream
 pub read_drains : {S : ℕ → Bool} {w : World} (n : Name) (at amount writers : ℕ) (d : Did (List ℕ)) → HasOpen S w n READ → asked_at (reading at amount writers) n w ≡ Ok d → Changes d.bytes ⊎ Changes d.size → stream_at w n ≡ true
@@ -122,14 +144,31 @@ read_drains {S} {w} n at amount writers d h told changes = by (stream_at w n) re
     by true is = is
     by false is = let k = asked_keeps w n at amount writers d told is in elim changes [ inl c ↦ absurd (subst Changes k.0 c) | inr c ↦ absurd (subst Changes k.1 c) ]
 
+-- no tree is a stream
+
+tree_still : (k : ServerKind) (text : List ℕ) → keeps_tree k ≡ true → (root_of k text).is_stream ≡ false
+tree_still Tmpfs text tree = refl
+tree_still k text tree = absurd (true≢false (sym tree))
+
+tree_keeps : (i : Option ServerInfo) → tree_by i ≡ true → streams_by i ≡ false
+tree_keeps None tree = refl
+tree_keeps (Some i) tree = tree_still i.kind i.text tree
+
+-- so a read leaves what its files have in all
+read_counts : (w : World) (n : Name) (at amount writers : ℕ) (d : Did (List ℕ)) → asked_at (reading at amount writers) n w ≡ Ok d → (k : Part) → Resizes w n (size_left d.size) → OnTotal w n k → ⊥
+read_counts w n at amount writers d told k resizes on =
+    let kept = asked_keeps w n at amount writers d told (tree_keeps (info_at w n) on.2) in
+    resizes.2 (ap (λ z. counts_for (size_left z resizes.0)) kept.1)
+
 pub read_may : (t p amount : ℕ) (offset : ℤ) → Allowed t (λ w. touches_read w t p amount offset)
 read_may t p amount offset S w s ours k on =
     let u = read_touches w t p amount offset k on in
     io_may t ours p READ (reads amount w) k u (λ d h a told did. drained u.handle.node d h a told did)
   where
-    drained : (n : Name) (d : Did (List ℕ)) → HasOpen S w n READ → (a : _) → asked_at (reads amount w a) n w ≡ Ok d → OnDid n d k → MayChange S w k
+    drained : (n : Name) (d : Did (List ℕ)) → HasOpen S w n READ → (a : _) → asked_at (reads amount w a) n w ≡ Ok d → OnDid w n d k → MayChange S w k
     drained n d h a told (inl on) = may_at S w k (BodyOf n) on.1 (ToDrain h (read_drains n a.at _ _ d h told (inl on.0)))
-    drained n d h a told (inr on) = may_at S w k (AttrOf n) on.1 (Sized (Drained h (read_drains n a.at _ _ d h told (inr on.0))))
+    drained n d h a told (inr (inl on)) = may_at S w k (AttrOf n) on.1 (Sized (Drained h (read_drains n a.at _ _ d h told (inr on.0))))
+    drained n d h a told (inr (inr on)) = absurd (read_counts w n a.at _ _ d told k on.0 on.1)
 
 pub seek_may : (t p : ℕ) (offset : ℤ) (whence : Whence) → Allowed t (λ w. touches_seek w t p offset whence)
 seek_may t p offset whence S w s ours q = parts_may (seek_asks w t p offset whence) _ q (λ a is on.

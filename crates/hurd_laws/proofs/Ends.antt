@@ -1,7 +1,7 @@
 -- What goes by a call whose changes settle at their end alone: afterwards nobody sees it.
 use Rattle.std.proofs.Common.{◌≡◌, ◌⊎◌, ◌∙◌, List, [], ◌∷◌, ◌++◌, Option, Some, None, refl, sym, subst, inl, inr}
 use Rattle.std.specs.Option.{option_map}
-use Rattle.hurd_machine.proofs.Common.{AttrOf, BodyOf, Change, Coherent, EmptyOf, EndsOf, IsGone, Linked, OpenOf, OptionsOf, Part, ServerInfo, Settle, TaskOf, TextOf, UsersOf, World, apply, apply_all, body_at, ends_at, faced, header_at, is_empty_dir, part, server_at, site_at}
+use Rattle.hurd_machine.proofs.Common.{AttrOf, BodyOf, Change, Coherent, EmptyOf, EndsOf, IsGone, Linked, OpenOf, OptionsOf, Part, ServerInfo, Settle, TaskOf, TextOf, TotalOf, UsersOf, World, apply, apply_all, body_at, ends_at, faced, header_at, is_empty_dir, part, server_at, site_at, total_at}
 use Rattle.hurd_machine.specs.World.{nodes_of}
 use Rattle.hurd_machine.specs.Change.{settle}
 use Rattle.hurd_machine.proofs.Coherence.{AllProper}
@@ -43,6 +43,7 @@ gone_or w (BodyOf n) = one_or (λ a. cc (a)) (λ c. cc (c)) (none_or (body_at w 
 gone_or w (EndsOf n) = one_or (λ a. cc (a)) (λ c. cc (c)) (none_or (ends_at w n))
 gone_or w (OptionsOf s) = one_or (λ a. cc (a)) (λ c. cc (c)) (none_or (option_map faced (server_at w s)))
 gone_or w (TextOf s) = one_or (λ a. cc (a)) (λ c. cc (c)) (none_or (option_map (λ (i : ServerInfo). i.text) (server_at w s)))
+gone_or w (TotalOf s) = one_or (λ a. cc (a)) (λ c. cc (c)) (none_or (total_at w s))
 gone_or w (OpenOf o) = inr (λ c. c)
 gone_or w (UsersOf s) = inr (λ c. c)
 gone_or w (TaskOf t) = inr (λ c. c)
@@ -54,6 +55,7 @@ gone_same w x (BodyOf n) a b = b ∙ sym a
 gone_same w x (EndsOf n) a b = b ∙ sym a
 gone_same w x (OptionsOf s) a b = b ∙ sym a
 gone_same w x (TextOf s) a b = b ∙ sym a
+gone_same w x (TotalOf s) a b = b ∙ sym a
 gone_same w x (OpenOf o) a b = absurd a
 gone_same w x (UsersOf s) a b = absurd a
 gone_same w x (TaskOf t) a b = absurd a

@@ -22,8 +22,8 @@ use Rattle.hurd_trans_iface.specs.Nodes.{unlinked, with_passive, without_entry}
 use Rattle.hurd_trans_iface.specs.Answers.{entering}
 use Rattle.hurd_trans_iface.specs.Behaviour.{edits_of}
 use Rattle.hurd_ports.specs.Tables.{fresh}
-use Rattle.hurd_trans_iface.specs.Meaning.{size_of}
-use Rattle.hurd_nodes.specs.Shown.{own_nodes, sizing}
+use Rattle.hurd_trans_iface.specs.Meaning.{keeps_tree, size_of}
+use Rattle.hurd_nodes.specs.Shown.{own_nodes, sizing_unless}
 use Rattle.hurd_fsys.specs.Setting.{leaver, seat_on, emptying, storing, seated, setting_where, sets_nothing}
 use Rattle.hurd_fsys.specs.Starting.{Startup, started, startup_asks}
 use Rattle.hurd_dirs.specs.Rename.{moves, renames}
@@ -119,7 +119,7 @@ started_ends t s m (Ok a) = attaching_ends t (seat_on s.node a.header m None tru
 
 retexting_plain : (w : World) (s : Name) (i : ServerInfo) (o : Option (List ℕ)) → Plain (retexting w s i o)
 retexting_plain w s i None = none
-retexting_plain w s i (Some text) = cons tt (edits (sizing (size_of i.kind text) (own_nodes s w.sites)))
+retexting_plain w s i (Some text) = cons tt (edits (sizing_unless (keeps_tree i.kind) (size_of i.kind text) (own_nodes s w.sites)))
 
 row_ends : (w : World) (t : ℕ) (c : Call) → Ends (row w t c).changes
 row_ends w t (PortDeallocate p) = ends_answered _ _ (λ r. ends_cons tt (ends_then (letting_plain (open_of r)) settle_ends))

@@ -3,7 +3,7 @@ use Rattle.std.proofs.Common.{◌≡◌, ◌∙◌, ◌||◌, if◌then◌else�
 use Rattle.std.specs.Prelude.{Result, Ok, Err}
 use Rattle.hurd_trans_iface.specs.Kinds.{behaviour_of}
 use Rattle.hurd_nodes.specs.Shown.{ServerInfo, info_taken, takes_options}
-use Rattle.hurd_machine.proofs.Common.{AttrOf, BodyOf, Control, EmptyOf, EndsOf, Errno, Holds, Meaning, Name, Named, OptionsOf, Part, PendingStart, SET, Start, TextOf, UsersOf, World, active_at, asks_trans, ports_of, server_at}
+use Rattle.hurd_machine.proofs.Common.{AttrOf, BodyOf, Control, EmptyOf, EndsOf, Errno, Holds, Meaning, Name, Named, OptionsOf, Part, PendingStart, SET, Start, TextOf, TotalOf, UsersOf, World, active_at, asks_trans, ports_of, server_at, tree_by}
 use Rattle.hurd_creds.specs.TransBits.{ORPHAN}
 use Rattle.hurd_creds.proofs.NameLaws.{same_name-itself}
 use Rattle.hurd_nodes.proofs.PartLaws.{and_both}
@@ -24,7 +24,7 @@ use Rattle.hurd_fsys.proofs.StartingLaws.{Starter, starter}
 use Rattle.hurd_machine.specs.World.{IsAmong}
 use Rattle.hurd_ports.specs.Tables.{start_of}
 use Rattle.std.specs.Prelude.{◌++◌, map, is_some}
-use Rattle.hurd_laws.specs.Integrity.{ByControl, BySeat, Gone, MayChange, Owned, Owns, RootOf, Rules, Seated, SentAway, Served, Sized, Started, ToEnter, WithServer}
+use Rattle.hurd_laws.specs.Integrity.{ByControl, BySeat, ByServer, Gone, MayChange, Owned, Owns, RootOf, Rules, Seated, SentAway, Served, Sized, Started, ToEnter, WithServer}
 use Rattle.hurd_laws.proofs.Authority.{Allowed, parts_may, may_at}
 
 -- a server that S may send away goes with all that is its own
@@ -34,9 +34,10 @@ goes_may S w s r (AttrOf n) (inr on) = Seated (SentAway s r on)
 goes_may S w s r (EmptyOf n) on = Gone s r on
 goes_may S w s r (BodyOf n) on = ToEnter (Gone s r on)
 goes_may S w s r (EndsOf n) on = WithServer s r on
-goes_may S w s r (OptionsOf q) on = subst (Rules S w) (sym on) r
+goes_may S w s r (OptionsOf q) on = inl (subst (Rules S w) (sym on) r)
 goes_may S w s r (TextOf q) on = inr (subst (Rules S w) (sym on) r)
 goes_may S w s r (UsersOf q) on = inr (subst (Rules S w) (sym on) r)
+goes_may S w s r (TotalOf q) on = ByServer (subst (Rules S w) (sym on) r)
 goes_may S w s r p on = absurd on
 
 pub goaway_rules : {S : ℕ → Bool} {w : World} (t : ℕ) → S t ≡ true → (c : ℕ) (flags : GoawayFlags) (n : Name) → goaway_asks w t c flags ≡ Ok n → Rules S w n
@@ -70,9 +71,13 @@ takes_there w s words a is = by (server_at w s) refl is
 pub set_options_may : (t c : ℕ) (words : List (List ℕ)) → Allowed t (λ w. touches_set_options w t c words)
 set_options_may t c words S w s ours q = parts_may (control_of (ports_of w) t c) _ q (λ n is. parts_may (takes_options words (server_at w n)) _ q (λ a takes on.
     let held = holds_right t ours c (Control n) (control_is w t c n is) in
+    let server = (takes_there w n words a takes).is_server in
     elim on [
       | inl e ↦ may_at S w q (TextOf n) e (inl held)
-      | inr e ↦ may_at S w q (AttrOf a.0.root) e (Sized (RootOf n a.0 held (takes_there w n words a takes).is_server refl))
+      | inr o ↦ elim o [
+        | inl tree ↦ may_at S w q (OptionsOf n) tree.1 (inr (held, ap tree_by server ∙ tree.0))
+        | inr lone ↦ may_at S w q (AttrOf a.0.root) lone.1 (Sized (RootOf n a.0 held server lone.0 refl))
+      ]
     ]))
 
 -- file_set_translator

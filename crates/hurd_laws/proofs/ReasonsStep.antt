@@ -19,8 +19,8 @@ use Rattle.hurd_trans_iface.specs.Nodes.{unlinked, with_passive, without_entry}
 use Rattle.hurd_trans_iface.specs.Answers.{entering}
 use Rattle.hurd_trans_iface.specs.Behaviour.{edits_of}
 use Rattle.hurd_ports.specs.Tables.{fresh}
-use Rattle.hurd_trans_iface.specs.Meaning.{size_of}
-use Rattle.hurd_nodes.specs.Shown.{own_nodes, sizing}
+use Rattle.hurd_trans_iface.specs.Meaning.{keeps_tree, size_of}
+use Rattle.hurd_nodes.specs.Shown.{own_nodes, sizing, sizing_unless}
 use Rattle.hurd_fsys.specs.Setting.{leaver, seat_on, emptying, storing, seated, setting_where, sets_nothing}
 use Rattle.hurd_fsys.specs.Starting.{Startup, started, startup_asks}
 use Rattle.hurd_dirs.specs.Rename.{moves, renames}
@@ -32,7 +32,7 @@ use Rattle.hurd_files.specs.Access.{gives}
 use Rattle.hurd_creds.specs.Access.{owns}
 use Rattle.hurd_machine.proofs.Coherence.{header_old}
 use Rattle.hurd_fsys.proofs.SettingLaws.{setter}
-use Rattle.hurd_laws.specs.Integrity.{ByReason, BySeat, Drained, Enters, EntryByReason, HasOpen, Integrity, MaySeat, MaySize, OnOwn, Owns, RootOf, Rules, SentAway, Started, Written}
+use Rattle.hurd_laws.specs.Integrity.{ByReason, BySeat, Drained, Enters, EntryByReason, HasOpen, Integrity, MaySeat, MaySize, Named as GetsName, OnOwn, Owns, RootOf, Rules, SentAway, Started, Written}
 use Rattle.hurd_laws.proofs.Assembled.{laws_of}
 use Rattle.hurd_laws.proofs.Authority.{chmod_owns, giver_owns, has_open, read_drains, set_size_open}
 use Rattle.hurd_laws.proofs.MayDirs.{Removes, link_names, mkdir_enters, mkfile_enters, rename_moves, rmdir_removes, takes_node, unlink_removes}
@@ -51,9 +51,7 @@ use Rattle.hurd_fsys.proofs.StartingLaws.{starter}
 use Rattle.hurd_io.proofs.Touching.{read_handle, write_handle}
 use Rattle.hurd_dirs.specs.Remove.{Entered, removing}
 use Rattle.hurd_nodes.specs.Shown.{takes_options}
-use Rattle.hurd_trans_iface.specs.Kinds.{behaviour_of}
 use Rattle.hurd_trans_iface.specs.Answers.{entry_of}
-use Rattle.hurd_trans_iface.proofs.Goods.{good}
 use Rattle.hurd_laws.specs.Step.{after}
 use Rattle.hurd_machine.specs.Sound.{Below}
 use Rattle.hurd_laws.proofs.MayStep.{parts_kept}
@@ -98,6 +96,10 @@ module _ {S : ℕ → Bool} {w : World} where
   sizes : (k : ℕ) (ms : List Name) → ((m : Name) → IsAmong m ms → MaySize S w m) → Reasons S w (changes_of (sizing k ms))
   sizes k [] may = none
   sizes k (m ∷ ms) may = cons (size_by (may m (inl refl)) k) (sizes k ms (λ n among. may n (inr among)))
+
+  sizes_unless : (tree : Bool) (k : ℕ) (ms : List Name) → (tree ≡ false → (m : Name) → IsAmong m ms → MaySize S w m) → Reasons S w (changes_of (sizing_unless tree k ms))
+  sizes_unless true k ms may = none
+  sizes_unless false k ms may = sizes k ms (may refl)
 
   effect_by : (m : Name) (b : Option (List ℕ → List ℕ)) (s : Option ℕ) → (Changes s → MaySize S w m) → Reasons S w (changes_of (edit_bytes m b (edit_size m s)))
   effect_by m None None may = none
@@ -165,17 +167,18 @@ module _ (S : ℕ → Bool) (w : World) where
 
   retexting_reasons : Coherent w → (t c : ℕ) → S t ≡ true → (words : List (List ℕ)) (s : Name) (a : ServerInfo × Option (List ℕ)) → control_of (ports_of w) t c ≡ Ok s → takes_options words (server_at w s) ≡ Ok a
       → Reasons S w (retexting w s a.0 a.1)
-  retexting_reasons co t c ours words s a is takes = by a.1 (takes_there w s words a takes).takes
+  retexting_reasons co t c ours words s a is takes = by a.1
     where
       held : Holds S w (Control s)
       held = holds_right t ours c (Control s) (control_is w t c s is)
 
-      by : (o : Option (List ℕ)) → (behaviour_of a.0.kind).set_options words ≡ Ok o → Reasons S w (retexting w s a.0 o)
-      by None e = none
-      by (Some text) e =
-          let k = takes_there w s words a takes in
-          let lone = ((good a.0.kind).options_root words text e).lone in
-          cons tt (sizes (size_of a.0.kind text) (own_nodes s w.sites) (λ m among. RootOf s a.0 held k.is_server (co.housing.lone m s a.0 (own_home s m w.sites among) k.is_server lone)))
+      server : server_at w s ≡ Some a.0
+      server = (takes_there w s words a takes).is_server
+
+      by : (o : Option (List ℕ)) → Reasons S w (retexting w s a.0 o)
+      by None = none
+      by (Some text) =
+          cons tt (sizes_unless (keeps_tree a.0.kind) (size_of a.0.kind text) (own_nodes s w.sites) (λ lone m among. RootOf s a.0 held server lone (co.housing.lone m s a.0 (own_home s m w.sites among) server lone)))
 
   -- by a task of S
   module _ (co : Coherent w) (t : ℕ) (ours : S t ≡ true) where
@@ -215,7 +218,7 @@ module _ (S : ℕ → Bool) (w : World) where
     row_reasons (DirMkfile p flags mode) = reasoned _ _ (λ a is. reasoned _ _ (λ m there. cons tt (both (entries a.1.dir a.1.entry (fresh t m.0) (mkfile_enters t ours p mode a is)) (cons tt (cons tt none)))))
     row_reasons (DirRmdir p name) = reasoned _ _ (λ x is. removing_reasons name x (rmdir_removes t ours p name x is))
     row_reasons (DirUnlink p name) = reasoned _ _ (λ x is. removing_reasons name x (unlink_removes t ours p name x is))
-    row_reasons (DirLink p name q) = reasoned _ _ (λ a is. let by = link_names t ours p name q a.dir a.file is in reasoned _ _ (λ u links. cons (enter_by by.enters name a.file) (cons (link_by by.links) none)))
+    row_reasons (DirLink p name q) = reasoned _ _ (λ a is. let by = link_names t ours p name q a.dir a.file is in reasoned _ _ (λ u links. cons (enter_by by.enters name a.file) (cons (link_by (GetsName by.names)) none)))
     row_reasons (DirRename p name q new) = reasoned _ _ (λ r is. let by = rename_moves t ours p name q new r.from r.to r.node r.old is in
         by_option_is (λ o. Reasons S w (renames name new r o)) r.old (λ e. cons (take_by name r.node by.takes) (cons (move_by (takes_node by.takes) r.to) (cons (enter_by by.comes new r.node) settling)))
         (λ m e. by_bool_is (λ b. Reasons S w (if b then [] else EditBody r.to (without_entry new) ∷ EditHeader m unlinked ∷ moves name new r)) (same_name m r.node) (λ same. none)

@@ -1,13 +1,14 @@
 -- Who may change what: the authority of a set of tasks over each part of a world, and the law that nothing else changes.
-use Rattle.std.specs.Prelude.{◌≡◌, ◌≢◌, ◌⊎◌, ℕ, Bool, true, List, Some, None}
+use Rattle.std.specs.Prelude.{◌≡◌, ◌≢◌, ◌⊎◌, ◌<◌, ℕ, Bool, true, false, List, Some, None}
 use Rattle.hurd_creds.specs.declared.name.Name.{Name}
 use Rattle.hurd_creds.specs.declared.attrs.Kind.TheVariants.{Dir}
 use Rattle.hurd_creds.specs.declared.attrs.Want.TheVariants.{Write}
 use Rattle.hurd_creds.specs.Access.{IdSets, may, owns}
 use Rattle.hurd_creds.specs.Bits.{asks, READ, WRITE}
-use Rattle.hurd_trans_iface.specs.Nodes.{Body, Header}
+use Rattle.hurd_trans_iface.specs.Nodes.{Body, Header, is_dir}
 use Rattle.hurd_trans_iface.specs.Answers.{entry_of}
-use Rattle.hurd_nodes.specs.Shown.{ServerInfo, boot_name}
+use Rattle.hurd_trans_iface.specs.Meaning.{keeps_tree}
+use Rattle.hurd_nodes.specs.Shown.{ServerInfo, boot_name, tree_by}
 use Rattle.hurd_ports.specs.declared.table.Opened.{Opened}
 use Rattle.hurd_ports.specs.declared.table.IoRight.{IoRight}
 use Rattle.hurd_ports.specs.declared.table.Right.{Right}
@@ -17,7 +18,7 @@ use Rattle.hurd_ports.specs.Steps.{with_sent}
 use Rattle.std.specs.Option.{option_map}
 use Rattle.hurd_machine.specs.Calls.{Call}
 use Rattle.hurd_machine.specs.World.{World, task_at, open_at, header_at, body_at, home_at, active_at, server_at, stream_at, counts_at}
-use Rattle.hurd_machine.specs.Sight.{bare, Holds, Seen, Part, AttrOf, EmptyOf, BodyOf, EndsOf, OpenOf, OptionsOf, TextOf, UsersOf, TaskOf, IsGone, Sees, part}
+use Rattle.hurd_machine.specs.Sight.{bare, Holds, Seen, Part, AttrOf, EmptyOf, BodyOf, EndsOf, OpenOf, OptionsOf, TextOf, UsersOf, TotalOf, TaskOf, IsGone, Sees, part}
 use Rattle.hurd_machine.specs.Sound.{Sound}
 use Rattle.hurd_dirs.specs.Entry.{may_take}
 use Rattle.hurd_laws.specs.Step.{after}
@@ -79,16 +80,24 @@ pub data Rules (S : ℕ → Bool) (w : World) (s : Name) : Type 0 where
   ByControl : Holds S w (Control s) → s ≢ boot_name → Rules S w s
   BySeat : (n : Name) → active_at w n ≡ Some s → Owns S w n → Rules S w s
 
--- why the size of a node may change: S writes it, or drains it, or gives its server another text
+-- why the size of a node may change: S writes it, or drains it, or gives its server another text, where that keeps no tree
 pub data MaySize (S : ℕ → Bool) (w : World) (n : Name) : Type 0 where
   Written : HasOpen S w n WRITE → MaySize S w n
   Drained : HasOpen S w n READ → stream_at w n ≡ true → MaySize S w n
-  RootOf : (s : Name) (i : ServerInfo) → Holds S w (Control s) → server_at w s ≡ Some i → n ≡ i.root → MaySize S w n
+  RootOf : (s : Name) (i : ServerInfo) → Holds S w (Control s) → server_at w s ≡ Some i → keeps_tree i.kind ≡ false → n ≡ i.root → MaySize S w n
+
+-- S may name the node n in a directory: it holds a right to use n, and may enter that directory
+pub record MayName (S : ℕ → Bool) (w : World) (n : Name) : Type 0 where
+  pub right : IoRight
+  pub held : Holds S w (Io right)
+  pub node : n ≡ right.node
+  pub at : Name
+  pub enters : Enters S w at
 
 -- why its links may: S takes it out of a directory, or names it in one
 pub data MayLink (S : ℕ → Bool) (w : World) (n : Name) : Type 0 where
   TakenOut : Takes S w n → MayLink S w n
-  Named : (r : IoRight) → Holds S w (Io r) → n ≡ r.node → (d : Name) → Enters S w d → MayLink S w n
+  Named : MayName S w n → MayLink S w n
 
 -- why it may change how many opens read and write it: its server is told, and S sees it
 pub record MayCount (S : ℕ → Bool) (w : World) (n : Name) : Type 0 where
@@ -125,6 +134,20 @@ pub data MayEnds (S : ℕ → Bool) (w : World) (n : Name) : Type 0 where
   ByOpens : MayCount S w n → MayEnds S w n
   WithServer : (s : Name) → Rules S w s → home_at w n ≡ Some s → MayEnds S w n
 
+-- n is a file of the server s, with this header
+pub record IsFileOf (w : World) (s n : Name) (h : Header) : Type 0 where
+  pub home : home_at w n ≡ Some s
+  pub is_header : header_at w n ≡ Some h
+  pub file : is_dir h.kind ≡ false
+
+-- why what a server's files that entries name have in all may: S writes one of them, gives one its first name, takes its last one out,
+-- or may send the server away
+pub data MayTotal (S : ℕ → Bool) (w : World) (s : Name) : Type 0 where
+  BySize : (n : Name) (h : Header) → IsFileOf w s n h → 0 < h.links → HasOpen S w n WRITE → MayTotal S w s
+  ByFirst : (n : Name) (h : Header) → IsFileOf w s n h → h.links ≡ 0 → MayName S w n → MayTotal S w s
+  ByLast : (n : Name) (h : Header) → IsFileOf w s n h → h.links ≡ 1 → Takes S w n → MayTotal S w s
+  ByServer : Rules S w s → MayTotal S w s
+
 -- S may change this part
 abbrev pub MayChange : (ℕ → Bool) → World → Part → Type 0
 MayChange S w (AttrOf n) = MayAttr S w n
@@ -132,9 +155,10 @@ MayChange S w (EmptyOf n) = MayEntries S w n
 MayChange S w (BodyOf n) = MayBody S w n
 MayChange S w (EndsOf n) = MayEnds S w n
 MayChange S w (OpenOf o) = (r : IoRight) × Holds S w (Io r) × (r.open_name ≡ o)
-MayChange S w (OptionsOf s) = Rules S w s
+MayChange S w (OptionsOf s) = Rules S w s ⊎ (Holds S w (Control s) × (tree_by (server_at w s) ≡ true))
 MayChange S w (TextOf s) = Holds S w (Control s) ⊎ Rules S w s
 MayChange S w (UsersOf s) = ((n : Name) × Seen S w n × (home_at w n ≡ Some s)) ⊎ Rules S w s
+MayChange S w (TotalOf s) = MayTotal S w s
 MayChange S w (TaskOf q) = S q ≡ true
 
 -- a task of others has its inbox alone changed: a right of S came last into it
