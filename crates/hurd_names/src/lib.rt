@@ -1,2 +1,9 @@
-//! Internal names are never told: the law that no reply depends on how things are called, nor on how many things their makers made before.
+//! Internal names are never told: no reply depends on how things are called, nor on how many things their makers made before.
+//!
+//! Nodes, servers and opens have names inside the machine, which count what their maker made. Here stand the laws that no call tells
+//! them: they compute nothing, and no other crate stands on them.
 #![tactic(auto)]
+
+mod laws;
+
+pub use laws::{names_untold, side_by_side_renamed};

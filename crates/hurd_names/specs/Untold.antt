@@ -1,0 +1,34 @@
+-- No reply tells how things are called inside, nor how many things others made unseen.
+use Rattle.std.specs.Prelude.{◌≡◌, ℕ, Bool, true, List, [], ◌∷◌}
+use Rattle.hurd_machine.specs.Calls.{Call}
+use Rattle.hurd_machine.specs.World.{World}
+use Rattle.hurd_machine.specs.Renamed.{Renaming, renamed}
+use Rattle.hurd_machine.specs.Sight.{SameView}
+use Rattle.hurd_machine.specs.Sound.{Sound}
+use Rattle.hurd_laws.specs.Runs.{TaskCall, calls_of, replies_to, worlds_of}
+use Rattle.hurd_laws.specs.Step.{reply_of}
+
+-- a call is told the same where all things have other names, and other tasks have made more
+abbrev pub NamesUntold : Type 0
+NamesUntold = (f : Renaming) (w : World) (t : ℕ) (c : Call) → f.more t ≡ 0 → reply_of (renamed f w) t c ≡ reply_of w t c
+
+-- two worlds look the same to S but for names: each with other names of things, of which S has made no more, they have one view
+pub record SameViewRenamed (S : ℕ → Bool) (v w : World) : Type 0 where
+  pub left : Renaming
+  pub right : Renaming
+  pub ours : (t : ℕ) → S t ≡ true → (left.more t ≡ 0) × (right.more t ≡ 0)
+  pub sound : Sound (renamed left v) × Sound (renamed right w)
+  pub same : SameView S (renamed left v) (renamed right w)
+
+-- so do worlds at the same places of two lists
+abbrev pub SameViewsRenamed : (ℕ → Bool) → List World → List World → Type 0
+SameViewsRenamed S [] [] = Unit {0}
+SameViewsRenamed S (v ∷ vs) (w ∷ ws) = SameViewRenamed S v w × SameViewsRenamed S vs ws
+SameViewsRenamed S vs ws = ⊥
+
+-- a set of tasks that makes the same calls in two runs, each in worlds that look the same to it but for names, is told the same
+abbrev pub SideBySideRenamed : Type 0
+SideBySideRenamed =
+    (S : ℕ → Bool) (v w : World) (ms ns : List TaskCall) → Sound v → Sound w
+    → calls_of S ms ≡ calls_of S ns → SameViewsRenamed S (worlds_of S v ms) (worlds_of S w ns)
+    → replies_to S v ms ≡ replies_to S w ns

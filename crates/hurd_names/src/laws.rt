@@ -1,0 +1,12 @@
+//! The laws of names, each the contract of a function that computes nothing.
+ghost use Rattle.hurd_names.specs.Untold.{NamesUntold, SideBySideRenamed};
+
+/// No reply depends on how things are called inside, nor on how many things other tasks made.
+pub fn names_untold()
+    ensures { NamesUntold }
+{}
+
+/// Where a set of tasks makes the same calls in two runs, and each of them in worlds that look the same to it but for names, it is told the same.
+pub fn side_by_side_renamed()
+    ensures { SideBySideRenamed }
+{}
