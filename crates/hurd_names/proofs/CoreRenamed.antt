@@ -1,40 +1,74 @@
--- What the core asks of tasks, and of ports that control servers, where things have other names.
-use Rattle.std.proofs.Common.{◌≡◌, ℕ, List, Option, Result, Ok, Err, refl, ap, ◌∙◌}
+-- What rooms ask of tasks and directories, and of the branches of unions, where things have other names.
+use Rattle.std.proofs.Common.{◌≡◌, ℕ, List, Option, Some, None, map, refl, ap, ◌∙◌}
+use Rattle.std.specs.Prelude.{nat_lt}
 use Rattle.std.specs.Option.{option_map}
-use Rattle.hurd_machine.proofs.Common.{Control, EBADF, EOVERFLOW, ESRCH, Errno, Io, Name, Right, ServerInfo, Start, World, or_refuse, ports_of, server_at, takes_options}
-use Rattle.hurd_ports.specs.Tables.{right_of}
+use Rattle.hurd_trans_iface.specs.declared.root.Crossing.TheVariants.{Union}
+use Rattle.hurd_machine.proofs.Common.{Crossing, Dir, File, Name, ServerInfo, Task, World, info_at}
 use Rattle.hurd_machine.specs.Renamed.{Renaming, info_renamed, renamed, right_renamed, task_renamed}
-use Rattle.hurd_machine.proofs.RenamedAsks.{takes_options-renamed}
-use Rattle.hurd_machine.proofs.RenamedPlans.{answer_renamed, answered-renamed, given-renamed, on-renamed, or_refuse-renamed}
-use Rattle.hurd_machine.proofs.RenamedServers.{server_at-renamed}
-use Rattle.hurd_machine.proofs.RenamedTasks.{can_name-renamed, caller-renamed, has_room-renamed, right_of-renamed}
-use Rattle.hurd_core.specs.Control.{control_in, control_of, plan_options, server_in}
-use Rattle.hurd_core.specs.Core.{naming_asks, room_asks}
+use Rattle.hurd_machine.proofs.RenamedAsks.{makes_at-renamed}
+use Rattle.hurd_machine.proofs.RenamedNodes.{home_at-renamed}
+use Rattle.hurd_machine.proofs.RenamedPlans.{answer_renamed, first-given, first-renamed, given-renamed, on-renamed}
+use Rattle.hurd_machine.proofs.RenamedServers.{info_at-renamed}
+use Rattle.hurd_machine.proofs.RenamedTasks.{caller-renamed, can_name-renamed, first_sent-renamed, has_room-renamed, length-renamed, right_of-renamed}
+use Rattle.hurd_core.specs.Branches.{branches, branches_at, branches_by}
+use Rattle.hurd_core.specs.Core.{NewNodeAt, making_asks, making_dir_asks, naming_asks, receive_asks, room_asks, send_asks}
 
 module _ (f : Renaming) where
-  server_in-renamed : (r : Right) → server_in (right_renamed f.to r) ≡ option_map f.to (server_in r)
-  server_in-renamed (Io r) = refl
-  server_in-renamed (Control s) = refl
-  server_in-renamed (Start n) = refl
+  -- a task that has made no more
+  abbrev pub caller_renamed : Task → Task
+  caller_renamed x = task_renamed f.to 0 x
 
-  control_in-renamed : (r : Result Right Errno) → control_in (answer_renamed (right_renamed f.to) r) ≡ answer_renamed f.to (control_in r)
-  control_in-renamed (Err e) = refl
-  control_in-renamed (Ok r) = ap (or_refuse EBADF) (server_in-renamed r) ∙ or_refuse-renamed f.to EBADF (server_in r)
+  -- a node that is to be made: its directory has another name
+  abbrev pub new_node_renamed : NewNodeAt → NewNodeAt
+  new_node_renamed n = record n { dir = f.to n.dir }
 
-  module _ (w : World) (t : ℕ) where
-    -- the server that a port controls
-    pub control_of-renamed : (c : ℕ) → control_of (ports_of (renamed f w)) t c ≡ answer_renamed f.to (control_of (ports_of w) t c)
-    control_of-renamed c = ap control_in (right_of-renamed f w t c) ∙ control_in-renamed (right_of (ports_of w) t c)
+  -- a task that makes a node, and the server of it
+  abbrev pub maker_renamed : Task × Name → Task × Name
+  maker_renamed m = (caller_renamed m.0, f.to m.1)
 
-    -- a task that has made no more
-    module _ (none : f.more t ≡ 0) where
-      pub room_asks-renamed : (names : ℕ) → room_asks (renamed f w) t names ≡ answer_renamed (task_renamed f.to 0) (room_asks w t names)
-      room_asks-renamed names = on-renamed (task_renamed f.to 0) (task_renamed f.to 0) ESRCH _ _ _ (caller-renamed f w t none) (λ x. given-renamed (task_renamed f.to 0) EOVERFLOW _ (has_room-renamed f names x) refl)
+  -- unions
 
-      pub naming_asks-renamed : (names : ℕ) → naming_asks (renamed f w) t names ≡ answer_renamed (task_renamed f.to 0) (naming_asks w t names)
-      naming_asks-renamed names = on-renamed (task_renamed f.to 0) (task_renamed f.to 0) ESRCH _ _ _ (caller-renamed f w t none) (λ x. given-renamed (task_renamed f.to 0) EOVERFLOW _ (can_name-renamed f names x) refl)
+  branches-renamed : (c : Crossing) (ns : List Name) → branches c (map f.to ns) ≡ map f.to (branches c ns)
+  branches-renamed Union ns = refl
+  branches-renamed _ ns = refl
 
-  -- a server that is given options
-  pub options_told : (w : World) (s : Name) (words : List (List ℕ)) → (plan_options (renamed f w) (f.to s) words).reply ≡ (plan_options w s words).reply
-  options_told w s words =
-      answered-renamed (λ (a : ServerInfo × Option (List ℕ)). (info_renamed f.to a.0, a.1)) _ _ _ (ap (takes_options words) (server_at-renamed f w s) ∙ takes_options-renamed f words (server_at w s)) (λ a. refl)
+  branches_by-renamed : (o : Option ServerInfo) → branches_by (option_map (info_renamed f.to) o) ≡ map f.to (branches_by o)
+  branches_by-renamed None = refl
+  branches_by-renamed (Some i) = branches-renamed _ i.targets
+
+  pub branches_at-renamed : (w : World) (n : Name) → branches_at (renamed f w) (f.to n) ≡ map f.to (branches_at w n)
+  branches_at-renamed w n = ap branches_by (info_at-renamed f w n) ∙ branches_by-renamed (info_at w n)
+
+  -- what tasks send
+
+  pub send_asks-renamed : (w : World) (t p q : ℕ) → send_asks (renamed f w) t p q ≡ answer_renamed (right_renamed f.to) (send_asks w t p q)
+  send_asks-renamed w t p q = first-renamed (right_renamed f.to) (right_renamed f.to) _ _ _ (right_of-renamed f w t p) (λ r.
+      given-renamed (right_renamed f.to) _ _ (ap (nat_lt q) (length-renamed f f.more w.tasks)) refl)
+
+  -- the caller, which has made no more
+
+  module _ (w : World) (t : ℕ) (none : f.more t ≡ 0) where
+    pub room_asks-renamed : (names : ℕ) → room_asks (renamed f w) t names ≡ answer_renamed caller_renamed (room_asks w t names)
+    room_asks-renamed names = on-renamed caller_renamed caller_renamed _ _ _ _ (caller-renamed f w t none) (λ x.
+        given-renamed caller_renamed _ _ (has_room-renamed f names x) refl)
+
+    pub naming_asks-renamed : (names : ℕ) → naming_asks (renamed f w) t names ≡ answer_renamed caller_renamed (naming_asks w t names)
+    naming_asks-renamed names = on-renamed caller_renamed caller_renamed _ _ _ _ (caller-renamed f w t none) (λ x.
+        given-renamed caller_renamed _ _ (can_name-renamed f names x) refl)
+
+    pub receive_asks-renamed : receive_asks (renamed f w) t ≡ answer_renamed caller_renamed (receive_asks w t)
+    receive_asks-renamed = on-renamed caller_renamed caller_renamed _ _ _ _ (caller-renamed f w t none) (λ x.
+        on-renamed (right_renamed f.to) caller_renamed _ _ _ _ (first_sent-renamed f x.inbox) (λ r.
+        given-renamed caller_renamed _ _ (has_room-renamed f 0 x) refl))
+
+    -- it makes a file and opens it
+    pub making_asks-renamed : (n : NewNodeAt) → making_asks (renamed f w) t (new_node_renamed n) ≡ answer_renamed maker_renamed (making_asks w t n)
+    making_asks-renamed n = first-renamed caller_renamed maker_renamed _ _ _ (room_asks-renamed 2) (λ x.
+        first-given maker_renamed _ _ (makes_at-renamed f w n.dir n.entry File) (λ u.
+        on-renamed f.to maker_renamed _ _ _ _ (home_at-renamed f w n.dir) (λ s. refl)))
+
+    -- it makes a directory
+    pub making_dir_asks-renamed : (n : NewNodeAt) → making_dir_asks (renamed f w) t (new_node_renamed n) ≡ answer_renamed maker_renamed (making_dir_asks w t n)
+    making_dir_asks-renamed n = first-given maker_renamed _ _ (makes_at-renamed f w n.dir n.entry Dir) (λ u.
+        first-renamed caller_renamed maker_renamed _ _ _ (naming_asks-renamed 1) (λ x.
+        on-renamed f.to maker_renamed _ _ _ _ (home_at-renamed f w n.dir) (λ s. refl)))

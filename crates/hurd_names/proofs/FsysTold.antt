@@ -11,7 +11,8 @@ use Rattle.hurd_machine.proofs.RenamedTasks.{users-renamed}
 use Rattle.hurd_fsys.specs.Controls.{Controlled, control_asks}
 use Rattle.hurd_fsys.specs.Fsys.{goaway_asks, may_go, plan_cntl, plan_control, plan_get_options, plan_getcontrol, plan_goaway, plan_set_options, seated_asks, served_asks}
 use Rattle.hurd_fsys.specs.Owned.{owned_asks}
-use Rattle.hurd_names.proofs.CoreRenamed.{control_of-renamed, options_told, room_asks-renamed}
+use Rattle.hurd_names.proofs.ControlRenamed.{control_of-renamed, options_told}
+use Rattle.hurd_names.proofs.CoreRenamed.{room_asks-renamed}
 
 module _ (f : Renaming) where
   -- a server that a port controls with other names

@@ -1,5 +1,15 @@
+pub mod KeptTypes
 pub mod CoreRenamed
+pub mod ControlRenamed
 pub mod AimsRenamed
 pub mod FsysTold
 pub mod SettingTold
 pub mod StartingTold
+pub mod RightsTold
+pub mod IoTold
+pub mod OpensTold
+pub mod FilesTold
+pub mod EntryTold
+pub mod RemoveTold
+pub mod RenameTold
+pub mod SideBySide
