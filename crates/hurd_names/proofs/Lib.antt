@@ -1,4 +1,5 @@
 pub mod KeptTypes
+pub mod LookupNames
 pub mod CoreRenamed
 pub mod ControlRenamed
 pub mod AimsRenamed
@@ -12,4 +13,12 @@ pub mod FilesTold
 pub mod EntryTold
 pub mod RemoveTold
 pub mod RenameTold
+pub mod Leading
+pub mod LookupSteps
+pub mod LookupWalks
+pub mod LookupEnds
+pub mod LookupPaths
+pub mod LookupStarts
+pub mod Lookups
+pub mod Untold
 pub mod SideBySide

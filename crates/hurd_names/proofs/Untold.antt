@@ -11,14 +11,14 @@ use Rattle.hurd_names.proofs.EntryTold.{mkdir_told, mkfile_told}
 use Rattle.hurd_names.proofs.FilesTold.{check_access_told, chmod_told, chown_told, readdir_told, set_size_told}
 use Rattle.hurd_names.proofs.FsysTold.{cntl_told, get_options_told, getcontrol_told, goaway_told, set_options_told}
 use Rattle.hurd_names.proofs.IoTold.{read_told, stat_told, write_told}
-use Rattle.hurd_names.proofs.LookupTold.{getroot_told, lookup_told}
+use Rattle.hurd_names.proofs.Lookups.{dir_lookup_told, fsys_getroot_told}
 use Rattle.hurd_names.proofs.OpensTold.{duplicate_told, get_openmodes_told, identity_told, readable_told, reauthenticate_told, restrict_auth_told, seek_told, set_openmodes_told}
 use Rattle.hurd_names.proofs.RemoveTold.{link_told, rmdir_told, unlink_told}
 use Rattle.hurd_names.proofs.RenameTold.{rename_told}
 use Rattle.hurd_names.proofs.RightsTold.{deallocate_told, makeauth_told, receive_told, send_told}
 use Rattle.hurd_names.proofs.SettingTold.{get_translator_told, set_translator_told}
 use Rattle.hurd_names.proofs.StartingTold.{start_failed_told, startup_told}
-use Rattle.hurd_names.proofs.ResolveTold.{resolve_all-renamed}
+use Rattle.hurd_names.proofs.LookupPaths.{resolve_all-renamed}
 
 module _ (f : Renaming) (w : World) (t : ℕ) (none : f.more t ≡ 0) where
   row_told : (c : Call) → (row (renamed f w) t c).reply ≡ (row w t c).reply
@@ -26,7 +26,7 @@ module _ (f : Renaming) (w : World) (t : ℕ) (none : f.more t ≡ 0) where
   row_told (PortSend p q) = send_told f w t p q.0
   row_told PortReceive = receive_told f w t none
   row_told (AuthMakeauth ids) = makeauth_told f w t ids
-  row_told (DirLookup p path flags mode) = lookup_told f w t none p path flags mode
+  row_told (DirLookup p path flags mode) = dir_lookup_told f w t none p path flags mode
   row_told (IoRead p amount offset) = read_told f w t p amount offset
   row_told (IoWrite p bytes offset) = write_told f w t p bytes offset
   row_told (IoSeek p offset whence) = seek_told f w t p offset whence
@@ -48,7 +48,7 @@ module _ (f : Renaming) (w : World) (t : ℕ) (none : f.more t ≡ 0) where
   row_told (FileGetcontrol p) = getcontrol_told f w t none p
   row_told (FsysStartup server) = startup_told f w (resolve_all-renamed f w) t none server
   row_told StartFailed = start_failed_told f w t
-  row_told (FsysGetroot c dir flags) = getroot_told f w t none c dir flags
+  row_told (FsysGetroot c dir flags) = fsys_getroot_told f w t none c dir flags
   row_told (FsysGoaway c flags) = goaway_told f w t c flags
   row_told (FsysGetOptions c) = get_options_told f w t c
   row_told (FsysSetOptions c words) = set_options_told f w t c words
