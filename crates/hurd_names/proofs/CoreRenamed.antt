@@ -10,6 +10,7 @@ use Rattle.hurd_machine.proofs.RenamedNodes.{home_at-renamed}
 use Rattle.hurd_machine.proofs.RenamedPlans.{answer_renamed, first-given, first-renamed, given-renamed, on-renamed}
 use Rattle.hurd_machine.proofs.RenamedServers.{info_at-renamed}
 use Rattle.hurd_machine.proofs.RenamedTasks.{caller-renamed, can_name-renamed, first_sent-renamed, has_room-renamed, length-renamed, right_of-renamed}
+use Rattle.hurd_names.proofs.LookupRenamed.{new_node_renamed}
 use Rattle.hurd_core.specs.Branches.{branches, branches_at, branches_by}
 use Rattle.hurd_core.specs.Core.{NewNodeAt, making_asks, making_dir_asks, naming_asks, receive_asks, room_asks, send_asks}
 
@@ -17,10 +18,6 @@ module _ (f : Renaming) where
   -- a task that has made no more
   abbrev pub caller_renamed : Task → Task
   caller_renamed x = task_renamed f.to 0 x
-
-  -- a node that is to be made: its directory has another name
-  abbrev pub new_node_renamed : NewNodeAt → NewNodeAt
-  new_node_renamed n = record n { dir = f.to n.dir }
 
   -- a task that makes a node, and the server of it
   abbrev pub maker_renamed : Task × Name → Task × Name
@@ -62,13 +59,13 @@ module _ (f : Renaming) where
         given-renamed caller_renamed _ _ (has_room-renamed f 0 x) refl))
 
     -- it makes a file and opens it
-    pub making_asks-renamed : (n : NewNodeAt) → making_asks (renamed f w) t (new_node_renamed n) ≡ answer_renamed maker_renamed (making_asks w t n)
+    pub making_asks-renamed : (n : NewNodeAt) → making_asks (renamed f w) t (new_node_renamed f.to n) ≡ answer_renamed maker_renamed (making_asks w t n)
     making_asks-renamed n = first-renamed caller_renamed maker_renamed _ _ _ (room_asks-renamed 2) (λ x.
         first-given maker_renamed _ _ (makes_at-renamed f w n.dir n.entry File) (λ u.
         on-renamed f.to maker_renamed _ _ _ _ (home_at-renamed f w n.dir) (λ s. refl)))
 
     -- it makes a directory
-    pub making_dir_asks-renamed : (n : NewNodeAt) → making_dir_asks (renamed f w) t (new_node_renamed n) ≡ answer_renamed maker_renamed (making_dir_asks w t n)
+    pub making_dir_asks-renamed : (n : NewNodeAt) → making_dir_asks (renamed f w) t (new_node_renamed f.to n) ≡ answer_renamed maker_renamed (making_dir_asks w t n)
     making_dir_asks-renamed n = first-given maker_renamed _ _ (makes_at-renamed f w n.dir n.entry Dir) (λ u.
         first-renamed caller_renamed maker_renamed _ _ _ (naming_asks-renamed 1) (λ x.
         on-renamed f.to maker_renamed _ _ _ _ (home_at-renamed f w n.dir) (λ s. refl)))

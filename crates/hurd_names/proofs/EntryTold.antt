@@ -13,7 +13,8 @@ use Rattle.hurd_core.specs.Core.{NewNodeAt}
 use Rattle.hurd_dirs.specs.Entry.{change_asks, dir_asks, entry_asks, may_change, tree_asks}
 use Rattle.hurd_dirs.specs.File.{mkfile_asks, plan_mkfile}
 use Rattle.hurd_dirs.specs.Make.{mkdir_asks, plan_mkdir}
-use Rattle.hurd_names.proofs.CoreRenamed.{making_asks-renamed, making_dir_asks-renamed, maker_renamed, new_node_renamed}
+use Rattle.hurd_names.proofs.CoreRenamed.{making_asks-renamed, making_dir_asks-renamed, maker_renamed}
+use Rattle.hurd_names.proofs.LookupRenamed.{new_node_renamed}
 
 is_none-mapped : {A B : Type 0} (g : A → B) (o : Option A) → is_none (option_map g o) ≡ is_none o
 is_none-mapped g None = refl
@@ -33,14 +34,14 @@ module _ (f : Renaming) (w : World) where
   entry_asks-renamed t p name = first-renamed (named_renamed f) (named_renamed f) _ _ _ (port_asks-renamed f w t p) (λ a.
       first-given (named_renamed f) _ _ refl (λ u. first-given (named_renamed f) _ _ (dir_asks-renamed a) (λ v. refl)))
 
-  mkdir_asks-renamed : (t p : ℕ) (name : List ℕ) (mode : Mode) → mkdir_asks (renamed f w) t p name mode ≡ answer_renamed (new_node_renamed f) (mkdir_asks w t p name mode)
-  mkdir_asks-renamed t p name mode = first-renamed (named_renamed f) (new_node_renamed f) _ _ _ (entry_asks-renamed t p name) (λ a.
-      on-given (new_node_renamed f) _ _ _ refl (λ owner.
-      given-renamed (new_node_renamed f) _ _ (ap is_none (entry_at-renamed f w a.right.node name) ∙ is_none-mapped f.to (entry_of name (body_at w a.right.node))) refl))
+  mkdir_asks-renamed : (t p : ℕ) (name : List ℕ) (mode : Mode) → mkdir_asks (renamed f w) t p name mode ≡ answer_renamed (new_node_renamed f.to) (mkdir_asks w t p name mode)
+  mkdir_asks-renamed t p name mode = first-renamed (named_renamed f) (new_node_renamed f.to) _ _ _ (entry_asks-renamed t p name) (λ a.
+      on-given (new_node_renamed f.to) _ _ _ refl (λ owner.
+      given-renamed (new_node_renamed f.to) _ _ (ap is_none (entry_at-renamed f w a.right.node name) ∙ is_none-mapped f.to (entry_of name (body_at w a.right.node))) refl))
 
   -- a file that is to be made, and the port that makes it
   abbrev file_renamed : Named × NewNodeAt → Named × NewNodeAt
-  file_renamed a = (named_renamed f a.0, new_node_renamed f a.1)
+  file_renamed a = (named_renamed f a.0, new_node_renamed f.to a.1)
 
   mkfile_asks-renamed : (t p : ℕ) (mode : Mode) → mkfile_asks (renamed f w) t p mode ≡ answer_renamed file_renamed (mkfile_asks w t p mode)
   mkfile_asks-renamed t p mode = first-renamed (named_renamed f) file_renamed _ _ _ (port_asks-renamed f w t p) (λ a.
@@ -48,7 +49,7 @@ module _ (f : Renaming) (w : World) where
 
   module _ (t : ℕ) (none : f.more t ≡ 0) where
     pub mkdir_told : (p : ℕ) (name : List ℕ) (mode : Mode) → (plan_mkdir (renamed f w) t p name mode).reply ≡ (plan_mkdir w t p name mode).reply
-    mkdir_told p name mode = answered-renamed (new_node_renamed f) _ _ _ (mkdir_asks-renamed t p name mode) (λ n.
+    mkdir_told p name mode = answered-renamed (new_node_renamed f.to) _ _ _ (mkdir_asks-renamed t p name mode) (λ n.
         answered-renamed (maker_renamed f) _ _ _ (making_dir_asks-renamed f w t none n) (λ m. refl))
 
     pub mkfile_told : (p : ℕ) (flags : OpenFlags) (mode : Mode) → (plan_mkfile (renamed f w) t p flags mode).reply ≡ (plan_mkfile w t p flags mode).reply

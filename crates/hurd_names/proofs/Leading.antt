@@ -1,4 +1,4 @@
--- What follows from answers that can't be named here, where things have other names.
+-- What follows from answers of types that a crate keeps to itself, where things have other names.
 use Rattle.std.proofs.Common.{◌≡◌, Bool, true, false, if◌then◌else◌, Option, Some, None, Result, Ok, Err, refl}
 use Rattle.std.specs.Option.{option_map}
 use Rattle.hurd_machine.proofs.Common.{Errno}

@@ -1,5 +1,5 @@
 pub mod KeptTypes
-pub mod LookupNames
+pub mod LookupRenamed
 pub mod CoreRenamed
 pub mod ControlRenamed
 pub mod AimsRenamed
@@ -14,11 +14,11 @@ pub mod EntryTold
 pub mod RemoveTold
 pub mod RenameTold
 pub mod Leading
-pub mod LookupSteps
-pub mod LookupWalks
-pub mod LookupEnds
-pub mod LookupPaths
-pub mod LookupStarts
-pub mod Lookups
+pub mod StepsRenamed
+pub mod WalkRenamed
+pub mod EndsRenamed
+pub mod ResolveRenamed
+pub mod NestedRenamed
+pub mod LookupTold
 pub mod Untold
 pub mod SideBySide

@@ -5,14 +5,14 @@ use Rattle.hurd_machine.specs.Renamed.{renamed}
 use Rattle.hurd_laws.specs.Step.{after}
 use Rattle.hurd_laws.specs.Runs.{TaskCall, replies_to, worlds_of}
 use Rattle.hurd_laws.proofs.Assembled.{own_from_view, stays_sound}
-use Rattle.hurd_laws.proofs.Headline.{together}
+use Rattle.hurd_laws.proofs.Together.{together}
 use Rattle.hurd_names.specs.Untold.{NamesUntold, SideBySideRenamed, SameViewsRenamed}
 
 abbrev Told : (ℕ → Bool) → List TaskCall → List TaskCall → Type 0
 Told S ms ns = (v w : World) → Sound v → Sound w → SameViewsRenamed S (worlds_of S v ms) (worlds_of S w ns) → replies_to S v ms ≡ replies_to S w ns
 
 pub side_by_side_renamed : NamesUntold → SideBySideRenamed
-side_by_side_renamed untold S v w ms ns sv sw same views = together S (Told S)
+side_by_side_renamed untold S v w ms ns sv sw same views = together (λ (m : TaskCall). S m.task) (Told S)
     (λ v w sv sw views. refl)
     (λ m ms ns e ih v w sv sw. rw e (ih (after v m.task m.call) w (stays_sound v m.task m.call sv) sw))
     (λ n ms ns e ih v w sv sw. rw e (ih v (after w n.task n.call) sv (stays_sound w n.task n.call sw)))

@@ -11,14 +11,14 @@ use Rattle.hurd_names.proofs.EntryTold.{mkdir_told, mkfile_told}
 use Rattle.hurd_names.proofs.FilesTold.{check_access_told, chmod_told, chown_told, readdir_told, set_size_told}
 use Rattle.hurd_names.proofs.FsysTold.{cntl_told, get_options_told, getcontrol_told, goaway_told, set_options_told}
 use Rattle.hurd_names.proofs.IoTold.{read_told, stat_told, write_told}
-use Rattle.hurd_names.proofs.Lookups.{dir_lookup_told, fsys_getroot_told}
+use Rattle.hurd_names.proofs.LookupTold.{dir_lookup_told, fsys_getroot_told}
 use Rattle.hurd_names.proofs.OpensTold.{duplicate_told, get_openmodes_told, identity_told, readable_told, reauthenticate_told, restrict_auth_told, seek_told, set_openmodes_told}
 use Rattle.hurd_names.proofs.RemoveTold.{link_told, rmdir_told, unlink_told}
 use Rattle.hurd_names.proofs.RenameTold.{rename_told}
 use Rattle.hurd_names.proofs.RightsTold.{deallocate_told, makeauth_told, receive_told, send_told}
 use Rattle.hurd_names.proofs.SettingTold.{get_translator_told, set_translator_told}
 use Rattle.hurd_names.proofs.StartingTold.{start_failed_told, startup_told}
-use Rattle.hurd_names.proofs.LookupPaths.{resolve_all-renamed}
+use Rattle.hurd_names.proofs.ResolveRenamed.{resolve_all-renamed}
 
 module _ (f : Renaming) (w : World) (t : ℕ) (none : f.more t ≡ 0) where
   row_told : (c : Call) → (row (renamed f w) t c).reply ≡ (row w t c).reply

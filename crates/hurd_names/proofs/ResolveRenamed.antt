@@ -14,9 +14,9 @@ use Rattle.hurd_lookup.specs.Lookup.{AtName, AtNode, Elsewhere, NewPort, Place, 
 use Rattle.hurd_lookup.specs.Nested.{asleep}
 unfoldable use Rattle.hurd_lookup.specs.Resolve.{path_end, resolve}
 use Rattle.hurd_lookup.specs.Resolve.{Leg, awake, from_top, landed, leg_at, leg_by, leg_request, legs, most_looks, resolve_all}
-use Rattle.hurd_names.proofs.LookupNames.{Asked, Landed, leg_renamed, new_port_renamed, place_renamed}
+use Rattle.hurd_names.proofs.LookupRenamed.{Asked, Landed, leg_renamed, new_port_renamed, place_renamed}
 use Rattle.hurd_names.proofs.Leading.{Leads, leads_first, leads_given, leads_on}
-use Rattle.hurd_names.proofs.LookupWalks.{walk-renamed}
+use Rattle.hurd_names.proofs.WalkRenamed.{walk-renamed}
 
 module _ (f : Renaming) where
   -- the root of the tree keeps its name

@@ -1,34 +1,18 @@
 -- What a lookup reads at the nodes that it comes to, where things have other names.
-use Rattle.std.proofs.Common.{◌≡◌, ℕ, Bool, true, false, if◌then◌else◌, List, [], ◌∷◌, Option, Some, None, map, refl, ap, ◌∙◌}
+use Rattle.std.proofs.Common.{◌≡◌, ℕ, Bool, true, false, if◌then◌else◌, List, [], ◌∷◌, Option, Some, None, refl, ap, ◌∙◌}
 use Rattle.std.specs.Prelude.{◌&&◌, is_some, option_and_then}
 use Rattle.std.specs.Option.{option_map}
 use Rattle.hurd_creds.specs.Access.{IdSets, may}
-use Rattle.hurd_trans_iface.specs.Meaning.{root_of}
-use Rattle.hurd_trans_iface.specs.declared.root.Crossing.TheVariants.{Union}
 use Rattle.hurd_ports.specs.declared.parents.Parent.{Parent}
-use Rattle.hurd_machine.proofs.Common.{Crossing, Exec, Header, Name, ServerInfo, World, active_at, bare, body_at, entry_of, header_at, info_at, is_dir, node_at, passive_of, server_at}
+use Rattle.hurd_machine.proofs.Common.{Exec, Header, Name, ServerInfo, World, active_at, bare, body_at, entry_of, header_at, is_dir, node_at, passive_of, server_at}
 use Rattle.hurd_machine.specs.Renamed.{Renaming, header_renamed, info_renamed, renamed}
 use Rattle.hurd_machine.proofs.RenamedMaps.{same_name-renamed}
 use Rattle.hurd_machine.proofs.RenamedNodes.{active_at-renamed, entry_at-renamed, header_at-renamed, is_some-mapped, node_at-renamed, passive_of-renamed}
-use Rattle.hurd_machine.proofs.RenamedServers.{info_at-renamed, server_at-renamed}
-use Rattle.hurd_core.specs.Branches.{branches, branches_at, branches_by}
+use Rattle.hurd_machine.proofs.RenamedServers.{server_at-renamed}
 use Rattle.hurd_lookup.specs.Lookup.{Active, Waiting, came_in_at, crossed_at, root_on, shows_name, ways_into}
-use Rattle.hurd_names.proofs.LookupNames.{crossed_renamed, ways_renamed}
+use Rattle.hurd_names.proofs.LookupRenamed.{crossed_renamed, ways_renamed}
 
 module _ (f : Renaming) where
-  -- branches of unions
-
-  branches-renamed : (c : Crossing) (targets : List Name) → branches c (map f.to targets) ≡ map f.to (branches c targets)
-  branches-renamed Union targets = refl
-  branches-renamed _ targets = refl
-
-  branches_by-renamed : (o : Option ServerInfo) → branches_by (option_map (info_renamed f.to) o) ≡ map f.to (branches_by o)
-  branches_by-renamed None = refl
-  branches_by-renamed (Some i) = branches-renamed (root_of i.kind i.text).crossing i.targets
-
-  pub branches_at-renamed : (w : World) (n : Name) → branches_at (renamed f w) (f.to n) ≡ map f.to (branches_at w n)
-  branches_at-renamed w n = ap branches_by (info_at-renamed f w n) ∙ branches_by-renamed (info_at w n)
-
   -- ways
 
   pub came_in_at-renamed : (ways : List Parent) (d : Name) → came_in_at (ways_renamed f.to ways) (f.to d) ≡ came_in_at ways d

@@ -8,15 +8,8 @@ use Rattle.hurd_machine.specs.Renamed.{start_renamed, way_renamed}
 use Rattle.hurd_core.specs.Core.{NewNodeAt}
 use Rattle.hurd_lookup.specs.Getroot.{Entrance}
 use Rattle.hurd_lookup.specs.Lookup.{Authority, NewPort, Place, AtNode, AtName, Elsewhere, Waits, Crossed, Active, Waiting, Outcome, Opens, Makes, Retries, Starts, entry_or}
+use Rattle.hurd_names.proofs.KeptTypes.{Comes, Takes}
 use Rattle.hurd_lookup.specs.Resolve.{Leg, awake, leg_request}
-
--- what a function gives
-abbrev pub Comes : {A B : Type 0} → (A → B) → Type 0
-Comes {A} {B} f = B
-
--- what a function takes
-abbrev pub Takes : {A B : Type 0} → (A → B) → Type 0
-Takes {A} {B} f = A
 
 -- where one name leads
 abbrev pub Stepped : Type 0

@@ -12,8 +12,8 @@ use Rattle.hurd_lookup.specs.Lookup.{Makes, Opens, Outcome, Retries, Starts}
 use Rattle.hurd_lookup.specs.Nested.{asleep, first_among, first_asleep, first_unstarted, lent_at, lent_by, most_asked, needed, or_needed, words_aims}
 use Rattle.hurd_lookup.specs.Resolve.{path_end}
 use Rattle.hurd_lookup.specs.Seeking.{sooner}
-use Rattle.hurd_names.proofs.LookupNames.{outcome_renamed}
-use Rattle.hurd_names.proofs.LookupPaths.{asleep-renamed}
+use Rattle.hurd_names.proofs.LookupRenamed.{outcome_renamed}
+use Rattle.hurd_names.proofs.ResolveRenamed.{asleep-renamed}
 
 module _ (f : Renaming) where
   lent_by-renamed : (ids : IdSets) (o : Option Header) → lent_by ids (option_map (header_renamed f.to) o) ≡ lent_by ids o

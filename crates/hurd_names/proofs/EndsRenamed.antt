@@ -3,7 +3,7 @@ use Rattle.std.proofs.Common.{◌≡◌, ℕ, Bool, not, List, Some, None, Resul
 use Rattle.std.specs.Prelude.{◌&&◌}
 use Rattle.hurd_creds.specs.declared.open_flags.OpenFlags.{OpenFlags}
 use Rattle.hurd_creds.specs.declared.attrs.Kind.TheVariants.{File}
-use Rattle.hurd_creds.specs.declared.errno.Errno.TheVariants.{EACCES, EDIED, EISDIR, ENAMETOOLONG, ENOENT, ENOTDIR, EOVERFLOW, EROFS, ESRCH}
+use Rattle.hurd_creds.specs.declared.errno.Errno.TheVariants.{EACCES, EDIED, EISDIR, ENAMETOOLONG, ENOENT, ENOTDIR, EROFS, ESRCH}
 use Rattle.hurd_creds.specs.Access.{IdSets}
 use Rattle.hurd_creds.specs.Bits.{WRITE, asks}
 use Rattle.hurd_ports.specs.declared.parents.Parent.{Parent}
@@ -15,12 +15,12 @@ use Rattle.hurd_machine.proofs.RenamedHandles.{on_header-renamed, on_right-renam
 use Rattle.hurd_machine.proofs.RenamedNodes.{home_at-renamed}
 use Rattle.hurd_machine.proofs.RenamedPlans.{answer_renamed, answered-renamed, first-given, first-renamed, given-renamed, on-given, on-renamed}
 use Rattle.hurd_machine.proofs.RenamedServers.{is_removed-renamed, only_reads-renamed}
-use Rattle.hurd_machine.proofs.RenamedTasks.{caller-renamed, has_room-renamed}
-use Rattle.hurd_core.specs.Core.{room_asks}
+use Rattle.hurd_machine.proofs.RenamedTasks.{caller-renamed}
 use Rattle.hurd_lookup.specs.Path.{names_in}
 use Rattle.hurd_lookup.specs.Lookup.{Authority, AtName, AtNode, Elsewhere, Makes, Opens, Outcome, Place, Retries, Starts, Waits, by_right, end_asks, ending_asks, finding, found_asks, lookup_told, make_asks, open_asks, whole_asks}
-use Rattle.hurd_names.proofs.LookupNames.{Asked, authority_renamed, outcome_renamed, place_renamed, ways_renamed}
-use Rattle.hurd_names.proofs.LookupWalks.{walk-renamed}
+use Rattle.hurd_names.proofs.LookupRenamed.{Asked, authority_renamed, outcome_renamed, place_renamed, ways_renamed}
+use Rattle.hurd_names.proofs.CoreRenamed.{room_asks-renamed}
+use Rattle.hurd_names.proofs.WalkRenamed.{walk-renamed}
 
 module _ (f : Renaming) where
   -- what is told, once it is done
@@ -72,15 +72,11 @@ module _ (f : Renaming) where
 
     -- of a task that has made no more
     module _ (t : ℕ) (none : f.more t ≡ 0) where
-      pub room_asks-renamed : (names : ℕ) → room_asks (renamed f w) t names ≡ answer_renamed (task_renamed f.to 0) (room_asks w t names)
-      room_asks-renamed names =
-          on-renamed (task_renamed f.to 0) (task_renamed f.to 0) ESRCH _ _ _ (caller-renamed f w t none) (λ x. given-renamed (task_renamed f.to 0) EOVERFLOW _ (has_room-renamed f names x) refl)
-
       ending_asks-renamed : (o : Outcome) → ending_asks (renamed f w) t (outcome_renamed f.to o) ≡ answer_renamed (task_renamed f.to 0) (ending_asks w t o)
-      ending_asks-renamed (Opens e) = room_asks-renamed 1
-      ending_asks-renamed (Makes s m ids ways) = room_asks-renamed 2
+      ending_asks-renamed (Opens e) = room_asks-renamed f w t none 1
+      ending_asks-renamed (Makes s m ids ways) = room_asks-renamed f w t none 2
       ending_asks-renamed (Retries kind name None) = on-renamed (task_renamed f.to 0) (task_renamed f.to 0) ESRCH _ _ _ (caller-renamed f w t none) (λ x. refl)
-      ending_asks-renamed (Retries kind name (Some e)) = room_asks-renamed 1
+      ending_asks-renamed (Retries kind name (Some e)) = room_asks-renamed f w t none 1
       ending_asks-renamed (Starts s) = on-renamed (task_renamed f.to 0) (task_renamed f.to 0) ESRCH _ _ _ (caller-renamed f w t none) (λ x. refl)
 
       whole_asks-renamed : (found other : Result Outcome Errno) → other ≡ answer_renamed (outcome_renamed f.to) found
