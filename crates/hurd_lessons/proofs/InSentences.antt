@@ -24,6 +24,7 @@ use Rattle.hurd_sentences.specs.Sentences.{InSentences, is_letter, is_word}
 use Rattle.hurd_sentences.specs.Spelling.{spelled, spelled_name, spelled_words}
 use Rattle.hurd_sentences.proofs.ClauseLaws.{IsClauseText, both_fit, both_sentences, clause_more, clause_of_part, fits, no_sentences, one_clause, three_clauses, two_clauses, word_fits}
 use Rattle.hurd_sentences.proofs.WordLaws.{decimal_is_word, octal_is_letter, spelled_is_word}
+use Rattle.hurd_views.specs.Marks.{text_mark}
 use Rattle.hurd_views.specs.Views.{row_at}
 use Rattle.hurd_views.specs.declared.rows.BodyRow.{BodyRow}
 use Rattle.hurd_views.specs.declared.rows.BodyRow.TheVariants as body
@@ -40,7 +41,7 @@ use Rattle.hurd_lessons.specs.Lessons.{GoneLineOf, LineOf, Lines, Unless, body_w
 use Rattle.hurd_lessons.specs.Values.{bytes_change, line_from, names_of, number_part, part_if, parted, path_or_none, server_or_none, short_mode, spelled_or_none, turned_part, with_part, words_or_none}
 use Rattle.hurd_places.specs.Places.{node_path, place_of, server_path}
 use Rattle.hurd_places.proofs.FitLaws.{node_path_fits, place_fits, server_path_fits}
-use Rattle.hurd_lessons.specs.Seen.{active_part, attributes_text, body_part, body_text, cursor_text, empty_part, ends_part, ends_text, entry_names, held_text, home_part, modes_text, node_places, node_text, number_text, opened_text, parent_of, parent_part, passive_text, places_text, program_text, given_text, on_part, opened_by_tasks, port_numbers, program_of, read_text, reads_of, seat_line, seat_lines, seat_text, seen_line, seen_lines, seen_of, server_named, server_parts, spaced_text, start_text, targets_part, task_text, text_part, uid_or_none, uid_text, words_behind, words_text}
+use Rattle.hurd_lessons.specs.Seen.{active_part, attributes_text, body_part, body_text, cursor_text, empty_part, ends_part, ends_text, entry_names, held_text, home_part, marked_text, modes_text, node_places, node_text, number_text, opened_text, parent_of, parent_part, passive_text, places_text, program_text, given_text, on_part, opened_by_tasks, port_numbers, program_of, read_text, reads_of, seat_line, seat_lines, seat_text, seen_line, seen_lines, seen_of, server_named, server_parts, start_text, targets_part, task_text, text_part, uid_or_none, uid_text, words_behind, words_text}
 use Rattle.hurd_lessons.specs.Told.{SeenInSentences, TaughtInSentences}
 use Rattle.hurd_lessons.specs.declared.changes.Became.{Became}
 use Rattle.hurd_lessons.specs.declared.changes.Became.TheVariants as became
@@ -291,12 +292,19 @@ uid_fits ids = go (least_uid ids)
     go None = refl
     go (Some u) = number_fits u
 
-spaced_text_fits : (text : List ℕ) → fits (spaced_text text) ≡ true
-spaced_text_fits [] = refl
-spaced_text_fits (b ∷ bs) = both_fit (32 ∷ []) (spelled (b ∷ bs)) refl (word_of_user_fits (b ∷ bs))
+mark_fits : (program : List ℕ) → fits (text_mark program) ≡ true
+mark_fits program = go (bytes_eq program (codes "/hurd/tmpfs"))
+  where
+    go : (is : Bool) → fits (if is then codes "--size=" else []) ≡ true
+    go true = refl
+    go false = refl
+
+marked_fits : (mark text : List ℕ) → fits mark ≡ true → fits (marked_text mark text) ≡ true
+marked_fits mark [] fit = refl
+marked_fits mark (b ∷ bs) fit = both_fit (32 ∷ []) (mark ++ spelled (b ∷ bs)) refl (both_fit mark (spelled (b ∷ bs)) fit (word_of_user_fits (b ∷ bs)))
 
 program_fits : (s : ServerRow) → fits (program_text s) ≡ true
-program_fits s = both_fit (spelled_or_none s.program) (spaced_text s.text) (spelled_or_none_fits s.program) (spaced_text_fits s.text)
+program_fits s = both_fit (spelled_or_none s.program) (marked_text (text_mark s.program) s.text) (spelled_or_none_fits s.program) (marked_fits (text_mark s.program) s.text (mark_fits s.program))
 
 server_row_said : (a b : View) (words : List ℕ) (x y : Option ServerRow) → (words ≡ []) ⊎ IsClauseText words → (changed_server a b words x y ≡ []) ⊎ IsClauseText (changed_server a b words x y)
 server_row_said a b words (Some x) (Some y) said =

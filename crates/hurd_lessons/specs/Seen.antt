@@ -19,6 +19,7 @@ use Rattle.hurd_ports.specs.declared.table.PendingStart.{PendingStart}
 use Rattle.hurd_ports.specs.declared.table.Port.{Port}
 use Rattle.hurd_ports.specs.declared.table.Right.{Right}
 use Rattle.hurd_ports.specs.declared.table.Right.TheVariants.{Io}
+use Rattle.hurd_views.specs.Marks.{text_mark}
 use Rattle.hurd_views.specs.Views.{row_at}
 use Rattle.hurd_views.specs.declared.rows.BodyRow.{BodyRow}
 use Rattle.hurd_views.specs.declared.rows.BodyRow.TheVariants as body
@@ -223,14 +224,14 @@ uid_or_none (Some u) = decimal u
 abbrev pub uid_text : IdSets → List ℕ
 uid_text ids = uid_or_none (least_uid ids)
 
--- bytes behind a space, where there are any
-abbrev pub spaced_text : List ℕ → List ℕ
-spaced_text [] = []
-spaced_text (b ∷ bs) = 32 ∷ spelled (b ∷ bs)
+-- a mark and bytes behind a space, where there are any bytes
+abbrev pub marked_text : List ℕ → List ℕ → List ℕ
+marked_text mark [] = []
+marked_text mark (b ∷ bs) = 32 ∷ (mark ++ spelled (b ∷ bs))
 
--- the program of a server, and behind it the text that whoever knows it is told: a link's, or a tree's, which is its limit
+-- the program of a server, and behind it what whoever knows it is told: a link's text, or the word that says a tree's limit
 abbrev pub program_text : ServerRow → List ℕ
-program_text s = spelled_or_none s.program ++ spaced_text s.text
+program_text s = spelled_or_none s.program ++ marked_text (text_mark s.program) s.text
 
 -- the program of a server, what it aims at, where its root is, and whom it runs as; or that it is gone
 abbrev pub server_parts : View → List ℕ → Option (Option ServerRow) → List ℕ

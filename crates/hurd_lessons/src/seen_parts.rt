@@ -2,7 +2,7 @@
 ghost use Rattle.std.specs.Prelude.{◌≡◌, ◌∷◌, ◌++◌, bytes_eq, codes, IfOk, OnOk, Some};
 ghost use Rattle.std.specs.Option.{option_map};
 ghost use Rattle.hurd_places.specs.Places.{node_path};
-ghost use Rattle.hurd_lessons.specs.Seen.{active_part, program_text, spaced_text, text_part, words_behind, body_part, body_text, bytes_text, cursor_text, empty_part, empty_text, ends_part, ends_text, entry_names, held_text, given_text, home_part, listing_text, modes_text, node_places, node_parts, node_text, number_text, on_part, opened_by_tasks, parent_part, passive_text, places_text, program_in, program_of, read_text, reads_of, seen_of, server_named, server_parts, targets_part, uid_text};
+ghost use Rattle.hurd_lessons.specs.Seen.{active_part, marked_text, program_text, text_part, words_behind, body_part, body_text, bytes_text, cursor_text, empty_part, empty_text, ends_part, ends_text, entry_names, held_text, given_text, home_part, listing_text, modes_text, node_places, node_parts, node_text, number_text, on_part, opened_by_tasks, parent_part, passive_text, places_text, program_in, program_of, read_text, reads_of, seen_of, server_named, server_parts, targets_part, uid_text};
 ghost use Rattle.hurd_lessons.specs.Values.{with_part, words_or_none};
 
 use crate::opens::opened_by_tasks;
@@ -306,24 +306,25 @@ pub(crate) fn uid_of(alloc: Global, ids: &Ids) -> Result<Vec<u8>, AllocError>
     }
 }
 
-/// Adds bytes behind a space, where there are any.
-fn push_text(words: &mut Vec<u8>, text: &[u8]) -> Result<(), AllocError>
-    ensures { OnOk result (words.new.items ≡ words.old.items ++ spaced_text text.now) }
+/// Adds a mark and bytes behind a space, where there are any bytes.
+fn push_marked(words: &mut Vec<u8>, mark: &[u8], text: &[u8]) -> Result<(), AllocError>
+    ensures { OnOk result (words.new.items ≡ words.old.items ++ marked_text mark.now text.now) }
 {
     if text.is_empty() {
         return Ok(());
     }
     words.push(b' ')?;
+    words.extend_from_slice(mark)?;
     push_word(words, text)
 }
 
-/// The program of a server, and behind it a link's text, or a tree's, which is its limit.
+/// The program of a server, and behind it a link's text, or the word that says a tree's limit.
 pub(crate) fn program_text(alloc: Global, server: &ServerRow) -> Result<Vec<u8>, AllocError>
     ensures { IfOk result (λ text. text.items ≡ program_text server.now) }
 {
     let mut text = Vec::new(alloc);
     push_bytes(&mut text, server.program.as_slice())?;
-    push_text(&mut text, server.text.as_slice())?;
+    push_marked(&mut text, server.text_mark(), server.text.as_slice())?;
     Ok(text)
 }
 

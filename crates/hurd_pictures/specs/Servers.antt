@@ -2,6 +2,7 @@
 use Rattle.std.specs.Prelude.{ℕ, ◌++◌, List, [], ◌∷◌, Option, Some, None, codes, option_and_then}
 use Rattle.hurd_creds.specs.Access.{least_uid}
 use Rattle.hurd_creds.specs.declared.name.Name.{Name}
+use Rattle.hurd_views.specs.Marks.{text_mark}
 use Rattle.hurd_views.specs.declared.rows.NodeRow.{NodeRow}
 use Rattle.hurd_views.specs.declared.rows.ServerRow.{ServerRow}
 use Rattle.hurd_views.specs.declared.rows.TextRow.{TextRow}
@@ -22,14 +23,14 @@ abbrev pub targets_text : View → Name → List Name → List ℕ
 targets_text v root [] = []
 targets_text v root (n ∷ ns) = target_text v root n ++ targets_text v root ns
 
--- the first of some bytes behind a space, where there are any
-abbrev pub spaced_label : List ℕ → List ℕ
-spaced_label [] = []
-spaced_label (b ∷ bs) = codes " " ++ short_label (b ∷ bs)
+-- a mark and the first of some bytes behind a space, where there are any bytes
+abbrev pub marked_label : List ℕ → List ℕ → List ℕ
+marked_label mark [] = []
+marked_label mark (b ∷ bs) = codes " " ++ (mark ++ short_label (b ∷ bs))
 
--- the program of a server, and behind it a link's text, or a tree's, which is its limit
+-- the program of a server, and behind it a link's text, or the word that says a tree's limit
 abbrev pub program_text : ServerRow → List ℕ
-program_text s = short_label s.program ++ spaced_label s.text
+program_text s = short_label s.program ++ marked_label (text_mark s.program) s.text
 
 -- what a server's box is called: by its words where they are seen, else by its program
 abbrev pub called_text : ServerRow → Option (Option TextRow) → List ℕ

@@ -1,6 +1,6 @@
 //! A server's box, what it aims at, and on which nodes servers are active.
 ghost use Rattle.std.specs.Prelude.{◌≡◌, ◌++◌, OnOk, Some};
-ghost use Rattle.hurd_pictures.specs.Servers.{active_text, box_label, called_text, program_text, served_by, served_text, server_text, spaced_label, target_text, targets_text};
+ghost use Rattle.hurd_pictures.specs.Servers.{active_text, box_label, called_text, marked_label, program_text, served_by, served_text, server_text, target_text, targets_text};
 
 use crate::bytes::{push_short, push_text};
 use crate::names::{Titles, active_of, push_words, root_of};
@@ -42,23 +42,24 @@ fn push_targets(
     Ok(())
 }
 
-/// Adds the first of some bytes behind a space, where there are any.
-fn push_spaced(text: &mut Vec<u8>, bytes: &[u8]) -> Result<(), AllocError>
-    ensures { OnOk result (text.new.items ≡ text.old.items ++ spaced_label bytes.now) }
+/// Adds a mark and the first of some bytes behind a space, where there are any bytes.
+fn push_marked(text: &mut Vec<u8>, mark: &[u8], bytes: &[u8]) -> Result<(), AllocError>
+    ensures { OnOk result (text.new.items ≡ text.old.items ++ marked_label mark.now bytes.now) }
 {
     if bytes.is_empty() {
         return Ok(());
     }
     push_text(text, b" ")?;
+    push_text(text, mark)?;
     push_short(text, bytes)
 }
 
-/// Adds the program of a server, and behind it a link's text, or a tree's, which is its limit.
+/// Adds the program of a server, and behind it a link's text, or the word that says a tree's limit.
 fn push_program(text: &mut Vec<u8>, server: &ServerRow) -> Result<(), AllocError>
     ensures { OnOk result (text.new.items ≡ text.old.items ++ program_text server.now) }
 {
     push_short(text, server.program.as_slice())?;
-    push_spaced(text, server.text.as_slice())
+    push_marked(text, server.text_mark(), server.text.as_slice())
 }
 
 /// Adds what a server's box is called: by its words where they are seen, else by its program.

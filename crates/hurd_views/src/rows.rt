@@ -1,5 +1,6 @@
 //! What is seen of things that have a name, as it can be kept and compared.
 ghost use Rattle.std.specs.Prelude.{◌≡◌, ◌↔◌, IfOk, IsTrue};
+ghost use Rattle.hurd_views.specs.Marks.{text_mark};
 ghost use Rattle.hurd_views.specs.Views.{HaveSameAccess, HaveSameMarks, HaveSameNode, HaveSamePlace, HaveSameServer, no_row};
 
 use hurd_creds::{Attrs, Bytes, Ids, Name, NodeName, Same, ServerName, all_same};
@@ -7,6 +8,9 @@ use hurd_ports::{Ends, Opened};
 use hurd_trans_iface::Words;
 use std::alloc::{AllocError, Global};
 use std::marker::Model;
+
+/// The program of a tree, whose text is its limit.
+const TREE: &[u8] = b"/hurd/tmpfs";
 
 /// A node beside what is in it.
 #[derive(Debug, Drop)]
@@ -247,6 +251,17 @@ impl BodyRow {
 }
 
 impl ServerRow {
+    /// What stands before its text where that is told behind its program: `--size=` if it is a tree, and else nothing.
+    pub fn text_mark(&self) -> &[u8]
+        ensures { result.now ≡ text_mark self.now.program }
+    {
+        if self.program.as_slice() == TREE {
+            b"--size="
+        } else {
+            b""
+        }
+    }
+
     /// Whether these are the same. Takes no memory.
     fn is_same(&self, other: &ServerRow) -> bool
         ensures { IsTrue result ↔ (self.now ≡ other.now) }
