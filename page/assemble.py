@@ -23,6 +23,7 @@ TITLES = {
     "learned-size.hurd": "Bob's file is closed, but stands in an open directory. What does alice learn of what he writes?",
     "learned-name.hurd": "Nobody may list a letter box, and each may put something in. Is the name of a letter a secret?",
     "learned-emptiness.hurd": "A directory that alice may not look into stands in one of hers. What does she learn of what is in it?",
+    "learned-full-tree.hurd": "Bob stores a letter where alice may not look, in a tree with a limit. How long is it?",
     "learned-view.hurd": "All that alice sees, before bob closes his home and behind it.",
 }
 
