@@ -1,0 +1,23 @@
+-- A sound world with other names of things is sound, if they are such as were given.
+use Rattle.hurd_machine.proofs.Common.{Sound, World}
+use Rattle.hurd_machine.specs.Sound.{AreGiven}
+use Rattle.hurd_machine.specs.Renamed.{Renaming, renamed}
+use Rattle.hurd_names.proofs.HousedRenamed.{housed-renamed, kinds-renamed, seated-renamed}
+use Rattle.hurd_names.proofs.RestRenamed.{at_rest-renamed, filled-renamed}
+use Rattle.hurd_names.proofs.TablesRenamed.{tables-renamed}
+use Rattle.hurd_names.proofs.TreeRenamed.{linked-renamed, tree-renamed}
+
+pub renamed-sound : (f : Renaming) (w : World) → AreGiven (renamed f w) → Sound w → Sound (renamed f w)
+renamed-sound f w given s = record {
+  coherent = record {
+    given = given;
+    housing = housed-renamed f w s.coherent.housing;
+    seating = seated-renamed f w s.coherent.seating;
+    tree = tree-renamed f w s.coherent.tree;
+    kinds = kinds-renamed f w s.coherent.kinds;
+    tables = tables-renamed f w s.coherent.tables;
+  };
+  linked = linked-renamed f w s.linked;
+  filled = filled-renamed f w s.filled;
+  settled = at_rest-renamed f w s.settled;
+}
