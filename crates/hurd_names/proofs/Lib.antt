@@ -27,5 +27,6 @@ pub mod TreeRenamed
 pub mod RestRenamed
 pub mod GivenRenamed
 pub mod SoundRenamed
+pub mod LeftAlone
 pub mod Untold
 pub mod SideBySide

@@ -1,13 +1,13 @@
 -- A sound world with other names of things is sound, if they are such as were given.
 use Rattle.hurd_machine.proofs.Common.{Sound, World}
-use Rattle.hurd_machine.specs.Sound.{AreGiven}
 use Rattle.hurd_machine.specs.Renamed.{Renaming, renamed}
+use Rattle.hurd_names.specs.Untold.{KeepsGiven}
 use Rattle.hurd_names.proofs.HousedRenamed.{housed-renamed, kinds-renamed, seated-renamed}
 use Rattle.hurd_names.proofs.RestRenamed.{at_rest-renamed, filled-renamed}
 use Rattle.hurd_names.proofs.TablesRenamed.{tables-renamed}
 use Rattle.hurd_names.proofs.TreeRenamed.{linked-renamed, tree-renamed}
 
-pub renamed-sound : (f : Renaming) (w : World) → AreGiven (renamed f w) → Sound w → Sound (renamed f w)
+pub renamed-sound : (f : Renaming) (w : World) → KeepsGiven f w → Sound w → Sound (renamed f w)
 renamed-sound f w given s = record {
   coherent = record {
     given = given;

@@ -4,7 +4,7 @@ use Rattle.hurd_machine.specs.Calls.{Call}
 use Rattle.hurd_machine.specs.World.{World}
 use Rattle.hurd_machine.specs.Renamed.{Renaming, renamed}
 use Rattle.hurd_machine.specs.Sight.{SameView}
-use Rattle.hurd_machine.specs.Sound.{Sound}
+use Rattle.hurd_machine.specs.Sound.{AreGiven, Sound}
 use Rattle.hurd_laws.specs.Runs.{TaskCall, calls_of, replies_to, worlds_of}
 use Rattle.hurd_laws.specs.Step.{reply_of}
 
@@ -12,12 +12,16 @@ use Rattle.hurd_laws.specs.Step.{reply_of}
 abbrev pub NamesUntold : Type 0
 NamesUntold = (f : Renaming) (w : World) (t : ℕ) (c : Call) → f.more t ≡ 0 → reply_of (renamed f w) t c ≡ reply_of w t c
 
+-- under their other names too, things are such as their tasks have made
+abbrev pub KeepsGiven : Renaming → World → Type 0
+KeepsGiven f w = AreGiven (renamed f w)
+
 -- two worlds look the same to S but for names: each with other names of things, of which S has made no more, they have one view
 pub record SameViewRenamed (S : ℕ → Bool) (v w : World) : Type 0 where
   pub left : Renaming
   pub right : Renaming
   pub ours : (t : ℕ) → S t ≡ true → (left.more t ≡ 0) × (right.more t ≡ 0)
-  pub sound : Sound (renamed left v) × Sound (renamed right w)
+  pub given : KeepsGiven left v × KeepsGiven right w
   pub same : SameView S (renamed left v) (renamed right w)
 
 -- so do worlds at the same places of two lists
