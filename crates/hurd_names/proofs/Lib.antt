@@ -28,5 +28,6 @@ pub mod RestRenamed
 pub mod GivenRenamed
 pub mod SoundRenamed
 pub mod LeftAlone
+pub mod Raised
 pub mod Untold
 pub mod SideBySide

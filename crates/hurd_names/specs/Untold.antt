@@ -1,5 +1,6 @@
 -- No reply tells how things are called inside, nor how many things others made unseen.
-use Rattle.std.specs.Prelude.{◌≡◌, ℕ, Bool, true, List, [], ◌∷◌}
+use Rattle.std.specs.Prelude.{◌≡◌, ◌≤◌, ◌+◌, ℕ, Bool, true, List, [], ◌∷◌}
+use Rattle.hurd_creds.specs.declared.name.Name.{Name}
 use Rattle.hurd_machine.specs.Calls.{Call}
 use Rattle.hurd_machine.specs.World.{World}
 use Rattle.hurd_machine.specs.Renamed.{Renaming, renamed}
@@ -36,3 +37,12 @@ SideBySideRenamed =
     (S : ℕ → Bool) (v w : World) (ms ns : List TaskCall) → Sound v → Sound w
     → calls_of S ms ≡ calls_of S ns → SameViewsRenamed S (worlds_of S v ms) (worlds_of S w ns)
     → replies_to S v ms ≡ replies_to S w ns
+
+-- names stay with their tasks, and no count rises by more than the task has made more
+pub record RaisesCounts (f : Renaming) : Type 0 where
+  pub task : (n : Name) → (f.to n).task.0 ≡ n.task.0
+  pub count : (n : Name) → (f.to n).count ≤ n.count + f.more n.task.0
+
+-- a sound world looks the same to S, but for names, where others have made more that is gone
+abbrev pub RaisedLooksSame : Type 0
+RaisedLooksSame = (S : ℕ → Bool) (f : Renaming) (w : World) → ((t : ℕ) → S t ≡ true → f.more t ≡ 0) → RaisesCounts f → Sound w → SameViewRenamed S w (renamed f w)

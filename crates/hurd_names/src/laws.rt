@@ -1,5 +1,5 @@
 //! The laws of names, each the contract of a function that computes nothing.
-ghost use Rattle.hurd_names.specs.Untold.{NamesUntold, SideBySideRenamed};
+ghost use Rattle.hurd_names.specs.Untold.{NamesUntold, RaisedLooksSame, SideBySideRenamed};
 
 /// No reply depends on how things are called inside, nor on how many things other tasks made.
 pub fn names_untold()
@@ -9,4 +9,9 @@ pub fn names_untold()
 /// Where a set of tasks makes the same calls in two runs, and each of them in worlds that look the same to it but for names, it is told the same.
 pub fn side_by_side_renamed()
     ensures { SideBySideRenamed }
+{}
+
+/// A world where others have made more, which is gone, looks the same but for names: so the law above speaks of it.
+pub fn raised_looks_same()
+    ensures { RaisedLooksSame }
 {}
