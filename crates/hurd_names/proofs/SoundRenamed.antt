@@ -1,14 +1,12 @@
--- A sound world with other names of things is sound, if they are such as were given.
-use Rattle.hurd_machine.proofs.Common.{Sound, World}
-use Rattle.hurd_machine.specs.Renamed.{Renaming, renamed}
-use Rattle.hurd_names.specs.Untold.{KeepsGiven}
+-- A sound world is sound with other names, if what stands in it was made by those too.
+use Rattle.hurd_names.specs.Untold.{RenamedSound}
 use Rattle.hurd_names.proofs.HousedRenamed.{housed-renamed, kinds-renamed, seated-renamed}
 use Rattle.hurd_names.proofs.RestRenamed.{at_rest-renamed, filled-renamed}
 use Rattle.hurd_names.proofs.TablesRenamed.{tables-renamed}
 use Rattle.hurd_names.proofs.TreeRenamed.{linked-renamed, tree-renamed}
 
-pub renamed-sound : (f : Renaming) (w : World) → KeepsGiven f w → Sound w → Sound (renamed f w)
-renamed-sound f w given s = record {
+pub renamed_sound : RenamedSound
+renamed_sound f w given s = record {
   coherent = record {
     given = given;
     housing = housed-renamed f w s.coherent.housing;

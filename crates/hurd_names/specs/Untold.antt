@@ -13,9 +13,13 @@ use Rattle.hurd_laws.specs.Step.{reply_of}
 abbrev pub NamesUntold : Type 0
 NamesUntold = (f : Renaming) (w : World) (t : ℕ) (c : Call) → f.more t ≡ 0 → reply_of (renamed f w) t c ≡ reply_of w t c
 
--- under their other names too, things are such as their tasks have made
+-- by its other names too, what stands was made: each name's count is below what its task has made
 abbrev pub KeepsGiven : Renaming → World → Type 0
 KeepsGiven f w = AreGiven (renamed f w)
+
+-- a sound world is sound with other names, if what stands was made by those too
+abbrev pub RenamedSound : Type 0
+RenamedSound = (f : Renaming) (w : World) → KeepsGiven f w → Sound w → Sound (renamed f w)
 
 -- two worlds look the same to S but for names: each with other names of things, of which S has made no more, they have one view
 pub record SameViewRenamed (S : ℕ → Bool) (v w : World) : Type 0 where
@@ -43,6 +47,6 @@ pub record RaisesCounts (f : Renaming) : Type 0 where
   pub task : (n : Name) → (f.to n).task.0 ≡ n.task.0
   pub count : (n : Name) → (f.to n).count ≤ n.count + f.more n.task.0
 
--- a sound world looks the same to S, but for names, where others have made more that is gone
+-- a sound world, and the same with names raised where others have made more, look the same to S but for names
 abbrev pub RaisedLooksSame : Type 0
 RaisedLooksSame = (S : ℕ → Bool) (f : Renaming) (w : World) → ((t : ℕ) → S t ≡ true → f.more t ≡ 0) → RaisesCounts f → Sound w → SameViewRenamed S w (renamed f w)
