@@ -20,5 +20,14 @@ pub mod EndsRenamed
 pub mod ResolveRenamed
 pub mod NestedRenamed
 pub mod LookupTold
+pub mod FoundRenamed
+pub mod HousedRenamed
+pub mod TablesRenamed
+pub mod TreeRenamed
+pub mod RestRenamed
+pub mod GivenRenamed
+pub mod SoundRenamed
+pub mod LeftAlone
+pub mod Raised
 pub mod Untold
 pub mod SideBySide

@@ -7,6 +7,7 @@ use Rattle.hurd_laws.specs.Runs.{TaskCall, replies_to, worlds_of}
 use Rattle.hurd_laws.proofs.Assembled.{own_from_view, stays_sound}
 use Rattle.hurd_laws.proofs.Together.{together}
 use Rattle.hurd_names.specs.Untold.{NamesUntold, SideBySideRenamed, SameViewsRenamed}
+use Rattle.hurd_names.proofs.SoundRenamed.{renamed_sound}
 
 abbrev Told : (ℕ → Bool) → List TaskCall → List TaskCall → Type 0
 Told S ms ns = (v w : World) → Sound v → Sound w → SameViewsRenamed S (worlds_of S v ms) (worlds_of S w ns) → replies_to S v ms ≡ replies_to S w ns
@@ -19,7 +20,7 @@ side_by_side_renamed untold S v w ms ns sv sw same views = together (λ (m : Tas
     (λ m ms ns e ih v w sv sw. rw e (λ views.
     let k = views.0 in
     let none = k.ours m.task e in
-    let one = own_from_view S (renamed k.left v) (renamed k.right w) m.task m.call k.sound.0 k.sound.1 e k.same in
+    let one = own_from_view S (renamed k.left v) (renamed k.right w) m.task m.call (renamed_sound k.left v k.given.0 sv) (renamed_sound k.right w k.given.1 sw) e k.same in
     ap₂ ◌∷◌ (sym (untold k.left v m.task m.call none.0) ∙ sym one.0 ∙ untold k.right w m.task m.call none.1)
     (ih (after v m.task m.call) (after w m.task m.call) (stays_sound v m.task m.call sv) (stays_sound w m.task m.call sw) views.1)))
     ms ns same v w sv sw views

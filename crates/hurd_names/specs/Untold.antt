@@ -1,10 +1,11 @@
 -- No reply tells how things are called inside, nor how many things others made unseen.
-use Rattle.std.specs.Prelude.{◌≡◌, ℕ, Bool, true, List, [], ◌∷◌}
+use Rattle.std.specs.Prelude.{◌≡◌, ◌≤◌, ◌+◌, ℕ, Bool, true, List, [], ◌∷◌}
+use Rattle.hurd_creds.specs.declared.name.Name.{Name}
 use Rattle.hurd_machine.specs.Calls.{Call}
 use Rattle.hurd_machine.specs.World.{World}
 use Rattle.hurd_machine.specs.Renamed.{Renaming, renamed}
 use Rattle.hurd_machine.specs.Sight.{SameView}
-use Rattle.hurd_machine.specs.Sound.{Sound}
+use Rattle.hurd_machine.specs.Sound.{AreGiven, Sound}
 use Rattle.hurd_laws.specs.Runs.{TaskCall, calls_of, replies_to, worlds_of}
 use Rattle.hurd_laws.specs.Step.{reply_of}
 
@@ -12,12 +13,20 @@ use Rattle.hurd_laws.specs.Step.{reply_of}
 abbrev pub NamesUntold : Type 0
 NamesUntold = (f : Renaming) (w : World) (t : ℕ) (c : Call) → f.more t ≡ 0 → reply_of (renamed f w) t c ≡ reply_of w t c
 
+-- by its other names too, what stands was made: each name's count is below what its task has made
+abbrev pub KeepsGiven : Renaming → World → Type 0
+KeepsGiven f w = AreGiven (renamed f w)
+
+-- a sound world is sound with other names, if what stands was made by those too
+abbrev pub RenamedSound : Type 0
+RenamedSound = (f : Renaming) (w : World) → KeepsGiven f w → Sound w → Sound (renamed f w)
+
 -- two worlds look the same to S but for names: each with other names of things, of which S has made no more, they have one view
 pub record SameViewRenamed (S : ℕ → Bool) (v w : World) : Type 0 where
   pub left : Renaming
   pub right : Renaming
   pub ours : (t : ℕ) → S t ≡ true → (left.more t ≡ 0) × (right.more t ≡ 0)
-  pub sound : Sound (renamed left v) × Sound (renamed right w)
+  pub given : KeepsGiven left v × KeepsGiven right w
   pub same : SameView S (renamed left v) (renamed right w)
 
 -- so do worlds at the same places of two lists
@@ -32,3 +41,12 @@ SideBySideRenamed =
     (S : ℕ → Bool) (v w : World) (ms ns : List TaskCall) → Sound v → Sound w
     → calls_of S ms ≡ calls_of S ns → SameViewsRenamed S (worlds_of S v ms) (worlds_of S w ns)
     → replies_to S v ms ≡ replies_to S w ns
+
+-- names stay with their tasks, and no count rises by more than the task has made more
+pub record RaisesCounts (f : Renaming) : Type 0 where
+  pub task : (n : Name) → (f.to n).task.0 ≡ n.task.0
+  pub count : (n : Name) → (f.to n).count ≤ n.count + f.more n.task.0
+
+-- a sound world, and the same with names raised where others have made more, look the same to S but for names
+abbrev pub RaisedLooksSame : Type 0
+RaisedLooksSame = (S : ℕ → Bool) (f : Renaming) (w : World) → ((t : ℕ) → S t ≡ true → f.more t ≡ 0) → RaisesCounts f → Sound w → SameViewRenamed S w (renamed f w)

@@ -6,4 +6,4 @@
 
 mod laws;
 
-pub use laws::{names_untold, side_by_side_renamed};
+pub use laws::{names_untold, raised_looks_same, renamed_sound, side_by_side_renamed};
