@@ -13,15 +13,16 @@ use Rattle.hurd_laws.specs.Step.{reply_of}
 abbrev pub NamesUntold : Type 0
 NamesUntold = (f : Renaming) (w : World) (t : ℕ) (c : Call) → f.more t ≡ 0 → reply_of (renamed f w) t c ≡ reply_of w t c
 
--- by its other names too, what stands was made: each name's count is below what its task has made
+-- with its other names too, all that stands was made by its task: each name's count is below what the task has made
 abbrev pub KeepsGiven : Renaming → World → Type 0
 KeepsGiven f w = AreGiven (renamed f w)
 
--- a sound world is sound with other names, if what stands was made by those too
+-- a sound world is sound with other names, if with those too all that stands was made
 abbrev pub RenamedSound : Type 0
 RenamedSound = (f : Renaming) (w : World) → KeepsGiven f w → Sound w → Sound (renamed f w)
 
--- two worlds look the same to S but for names: each with other names of things, of which S has made no more, they have one view
+-- two worlds look the same to S but for names: each gets other names of things, with which all that stands was made too, and of which S has made no more; then they
+-- have one view
 pub record SameViewRenamed (S : ℕ → Bool) (v w : World) : Type 0 where
   pub left : Renaming
   pub right : Renaming

@@ -6,7 +6,7 @@ pub fn names_untold()
     ensures { NamesUntold }
 {}
 
-/// A sound world is sound with other names too, if what stands in it was made by those.
+/// A sound world is sound with other names too, if each name's count is below what its task has made.
 pub fn renamed_sound()
     ensures { RenamedSound }
 {}
