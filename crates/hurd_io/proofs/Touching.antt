@@ -68,8 +68,12 @@ pub write_touches : (w : World) (t p : ℕ) (bytes : List ℕ) (offset : ℤ) (k
 write_touches w t p bytes offset k = parts_of (write_asks w t p offset) _ k (λ a is. parts_of (asked_at (writes bytes w a) a.node w) _ k (λ d told on.
     touched w t p WRITE (writes bytes w) k a d (write_handle w t p offset a is) told on))
 
--- what holds of no changes, and of an edit of an open, holds of what moves a cursor
+-- what holds of no changes, and of a cursor that goes to a place, each of whatever open, holds of what moves a cursor
+pub moved_alike : (P : (Name → List Change) → Type 0) → P (λ o. []) → ((k : ℕ) → P (λ o. EditOpen o (at_cursor k) ∷ [])) → (f : Offset) (stream : Bool) (k : ℕ) → P (λ o. moved f stream o k)
+moved_alike P none one (Place n) stream k = none
+moved_alike P none one Cursor true k = none
+moved_alike P none one Cursor false k = one k
+
+-- what holds of no changes, and of an edit of an open, too
 pub moved_all : (P : List Change → Type 0) → P [] → ((o : Name) (f : Opened → Opened) → P (EditOpen o f ∷ [])) → (f : Offset) (stream : Bool) (o : Name) (k : ℕ) → P (moved f stream o k)
-moved_all P none one (Place n) stream o k = none
-moved_all P none one Cursor true o k = none
-moved_all P none one Cursor false o k = one o (at_cursor k)
+moved_all P none one f stream o k = moved_alike (λ (c : Name → List Change). P (c o)) none (λ j. one o (at_cursor j)) f stream k

@@ -104,8 +104,12 @@ served_isolated w ms rs x h s S v ns sv view same qw qv =
     let i = isolated S w v (kept ms rs) ns s sv view same qw qv in
     (l.1 ∙ i.0, subst (λ z. SameView S z (run v ns)) (sym l.0) i.1)
 
+-- what S was told is what the written machine tells it in reply to the calls that found memory
+pub told_kept : (S : ℕ → Bool) (w : World) (ms : List TaskCall) (rs : List Reply) (x : World) → Served w ms rs x → told_to S ms rs ≡ replies_to S w (kept ms rs)
+told_kept S w ms rs x h = (ran S ms rs w x h).1
+
 pub served_compared : (w : World) (ms : List TaskCall) (rs : List Reply) (x : World) → Served w ms rs x → Sound w → ComparedRun w ms rs
-served_compared w ms rs x h s S v ns sv same views = (ran S ms rs w x h).1 ∙ side_by_side S w v (kept ms rs) ns s sv same views
+served_compared w ms rs x h s S v ns sv same views = told_kept S w ms rs x h ∙ side_by_side S w v (kept ms rs) ns s sv same views
 
 pub served_spared : (w : World) (ms : List TaskCall) (rs : List Reply) (x : World) → Served w ms rs x → Sound w → SparesAll w (kept ms rs) x
 served_spared w ms rs x h s = subst (SparesAll w (kept ms rs)) (sym (ran (λ t. true) ms rs w x h).0) (integrity_run w (kept ms rs) s)

@@ -11,12 +11,12 @@ use Rattle.hurd_trans_iface.specs.TmpfsKind.{bytes_in, read_bytes}
 use Rattle.hurd_nodes.specs.Shown.{info_taken, made_by, readable_by, rename_by, unlink_by}
 use Rattle.hurd_machine.proofs.Common.{Body, Content, EEXIST, EISDIR, ENOENT, ENOSPC, ENOTDIR, EOVERFLOW, EROFS, EXDEV, EOPNOTSUPP, Errno, Header, Kind, Listing, Name, Node, Question, ServerInfo, World, are_kin, asked_at, asked_of, counts_for, edit_by, fitting, get, home_at, info_at, is_dir, is_made, keeps_tree, link_by, links_at, makes_at, most_links, overfills, renames_at, sets_attrs_at, space_at, takes_options, writing}
 use Rattle.hurd_machine.specs.World.{count_in, readable_at, unlinks_at}
-use Rattle.hurd_machine.specs.Renamed.{Renaming, body_renamed, header_renamed, info_renamed, node_renamed, renamed}
+use Rattle.hurd_machine.specs.Renamed.{OtherNames, body_renamed, header_renamed, info_renamed, node_renamed, renamed}
 use Rattle.hurd_machine.proofs.RenamedNodes.{has_entry-renamed, is_taken-renamed, kin_at-renamed, node_at-renamed}
 use Rattle.hurd_machine.proofs.RenamedPlans.{answer_renamed}
 use Rattle.hurd_machine.proofs.RenamedServers.{info_at-renamed, space_at-renamed}
 
-module _ (f : Renaming) where
+module _ (f : OtherNames) where
   -- questions
 
   -- the answer doesn't go by names that a node has

@@ -4,13 +4,13 @@ use Rattle.hurd_machine.proofs.Common.{EDIED, Errno, Header, IoRight, Name, Worl
 use Rattle.hurd_machine.specs.declared.handle.Handle.{Handle}
 use Rattle.hurd_machine.specs.Handle.{Named, both_asks, handle_asks, port_asks}
 use Rattle.hurd_machine.specs.Plan.{first, on}
-use Rattle.hurd_machine.specs.Renamed.{Renaming, header_renamed, io_renamed, open_renamed, renamed}
+use Rattle.hurd_machine.specs.Renamed.{OtherNames, header_renamed, io_renamed, open_renamed, renamed}
 use Rattle.hurd_machine.proofs.RenamedNodes.{header_at-renamed}
 use Rattle.hurd_machine.proofs.RenamedPlans.{answer_renamed, first-renamed, given-renamed, on-renamed}
 use Rattle.hurd_machine.proofs.RenamedServers.{open_at-renamed}
 use Rattle.hurd_machine.proofs.RenamedTasks.{io_right_of-renamed}
 
-module _ (f : Renaming) where
+module _ (f : OtherNames) where
   -- a port on a node with other names
   abbrev pub named_renamed : Named → Named
   named_renamed n = record { right = io_renamed f.to n.right; header = header_renamed f.to n.header }

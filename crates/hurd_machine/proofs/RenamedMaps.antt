@@ -16,9 +16,9 @@ use Rattle.hurd_creds.proofs.NameLaws.{equal_if_tied, name_tied, same_map_by, sa
 use Rattle.hurd_creds.proofs.Retained.{get-retained, was_retained}
 use Rattle.hurd_creds.proofs.Sums.{of_found, total, total_insert, total_none}
 use Rattle.hurd_machine.proofs.Common.{Name, NameMap, edit, name_cmp, same_name}
-use Rattle.hurd_machine.specs.Renamed.{Renaming, map_renamed}
+use Rattle.hurd_machine.specs.Renamed.{OtherNames, map_renamed}
 
-module _ (f : Renaming) where
+module _ (f : OtherNames) where
   -- two names are one exactly where their other names are
   pub same_name-renamed : (a b : Name) → same_name (f.to a) (f.to b) ≡ same_name a b
   same_name-renamed a b = elim (same_or_apart a b) [

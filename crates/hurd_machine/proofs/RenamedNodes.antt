@@ -5,7 +5,7 @@ use Rattle.std.specs.Option.{option_map}
 use Rattle.std.specs.Str.{bytes_eq}
 use Rattle.hurd_trans_iface.specs.Nodes.{Entry, content_in}
 use Rattle.hurd_machine.proofs.Common.{Body, Content, Listing, Name, NameMap, Node, Site, World, active_at, are_kin, body_at, boot_name, entry_in, entry_of, get, header_at, home_at, home_in, is_dir, is_empty_dir, is_entered_at, is_home, is_listed, is_of, is_one, is_taken, list_any, lists, lists_at, names_of, node_at, passive_of, same_name, site_at, words_at, words_in}
-use Rattle.hurd_machine.specs.Renamed.{Renaming, body_renamed, entry_renamed, header_renamed, map_renamed, node_renamed, renamed, site_renamed}
+use Rattle.hurd_machine.specs.Renamed.{OtherNames, body_renamed, entry_renamed, header_renamed, map_renamed, node_renamed, renamed, site_renamed}
 use Rattle.hurd_machine.proofs.RenamedMaps.{get-renamed, same_name-renamed}
 
 -- whether something is there doesn't depend on what it is made
@@ -13,7 +13,7 @@ pub is_some-mapped : {A B : Type 0} (g : A → B) (o : Option A) → is_some (op
 is_some-mapped g None = refl
 is_some-mapped g (Some x) = refl
 
-module _ (f : Renaming) where
+module _ (f : OtherNames) where
   -- names that may not be there
 
   pub is_home-renamed : (s : Name) (o : Option Name) → is_home (f.to s) (option_map f.to o) ≡ is_home s o

@@ -7,11 +7,11 @@ use Rattle.hurd_ports.specs.declared.table.Ends.{Ends}
 use Rattle.hurd_ports.specs.Tables.{ends}
 use Rattle.hurd_machine.proofs.Common.{Header, Name, NameMap, NodeMap, ServerInfo, World, READ, WRITE, asks, counts_at, counts_by, counts_for, ends_at, ends_of, get, gives_text, home_at, home_in, info_at, info_in, is_end, is_home, is_removed, is_root_at, is_root_of, is_server_root, leads_on, limit_by, nodes_in, one_if, only_reads, open_at, server_at, shape_at, shape_by, space_at, space_with, stream_at, targets_at, targets_in, total_at, total_if, total_in, tree_by}
 use Rattle.hurd_machine.specs.World.{nodes_of, readers_at, readers_in, writers_at, writers_in}
-use Rattle.hurd_machine.specs.Renamed.{Renaming, header_renamed, info_renamed, map_renamed, node_renamed, open_renamed, renamed}
+use Rattle.hurd_machine.specs.Renamed.{OtherNames, header_renamed, info_renamed, map_renamed, node_renamed, open_renamed, renamed}
 use Rattle.hurd_machine.proofs.RenamedMaps.{get-renamed, retain_keys-renamed, same_name-renamed, total-renamed}
 use Rattle.hurd_machine.proofs.RenamedNodes.{home_at-renamed, is_home_in-renamed, is_some-mapped}
 
-module _ (f : Renaming) where
+module _ (f : OtherNames) where
   -- a server that may not be there
 
   pub shape_by-renamed : (o : Option ServerInfo) → shape_by (option_map (info_renamed f.to) o) ≡ shape_by o

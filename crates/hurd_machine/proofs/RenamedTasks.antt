@@ -9,12 +9,12 @@ use Rattle.hurd_ports.specs.Tables.{io_of, io_right_in, names_node, names_server
 unfoldable use Rattle.hurd_ports.specs.Tables.{is_controlled, is_named}
 use Rattle.hurd_machine.proofs.Common.{Control, EBADF, EOVERFLOW, ESRCH, Errno, Io, Name, PendingStart, Right, Start, Task, World, can_name, count_rights, first_sent, fresh, has_room, ids_at, io_right_of, is_held, list_any, name_of, names_open, naming_of, one_if, open_of, or_refuse, pending_of, ports_of, right_at, right_in, rights_of, room_at, room_of, same_name, start_of, task_at, task_of, u64_greatest, ways_of}
 use Rattle.hurd_machine.specs.Sight.{holders, is_on, users}
-use Rattle.hurd_machine.specs.Renamed.{Renaming, io_renamed, port_renamed, renamed, right_renamed, start_renamed, task_renamed, tasks_renamed, way_renamed}
+use Rattle.hurd_machine.specs.Renamed.{OtherNames, io_renamed, port_renamed, renamed, right_renamed, start_renamed, task_renamed, tasks_renamed, way_renamed}
 use Rattle.hurd_machine.proofs.RenamedMaps.{same_name-renamed}
 use Rattle.hurd_machine.proofs.RenamedNodes.{is_home_in-renamed}
 use Rattle.hurd_machine.proofs.RenamedPlans.{answer_renamed, or_refuse-renamed}
 
-module _ (f : Renaming) where
+module _ (f : OtherNames) where
   -- rights
 
   pub open_of-renamed : (r : Right) → open_of (right_renamed f.to r) ≡ option_map f.to (open_of r)

@@ -85,13 +85,13 @@ own_one s r sites at lone =
 -- nodes that get a size
 
 module _ (k : ℕ) where
-  abbrev sized : Node → Node
+  abbrev pub sized : Node → Node
   sized = with_header (with_size k)
 
-  abbrev sizes : List Name → List Change
+  abbrev pub sizes : List Name → List Change
   sizes ns = changes_of (sizing k ns)
 
-  sizes_done : (ns : List Name) (w : World) → apply_all (sizes ns) w ≡ record w { nodes = edit_all (sizing k ns) w.nodes }
+  pub sizes_done : (ns : List Name) (w : World) → apply_all (sizes ns) w ≡ record w { nodes = edit_all (sizing k ns) w.nodes }
   sizes_done [] w = refl
   sizes_done (n ∷ ns) w = sizes_done ns (record w { nodes = edit n sized w.nodes })
 
@@ -107,7 +107,7 @@ module _ (k : ℕ) where
     | inr apart ↦ edit_apart m q sized n apart ∙ e
   ])
 
-  sized_here : (ns : List Name) (m : NodeMap) (n : Name) → IsAmong n ns → get (edit_all (sizing k ns) m) n ≡ option_map sized (get m n)
+  pub sized_here : (ns : List Name) (m : NodeMap) (n : Name) → IsAmong n ns → get (edit_all (sizing k ns) m) n ≡ option_map sized (get m n)
   sized_here [] m n i = absurd i
   sized_here (q ∷ ns) m n (inl e) = sized_yet ns (edit q sized m) n (get m n) (rw e (edit_here m n sized))
   sized_here (q ∷ ns) m n (inr i) = elim (same_or_apart n q) [
@@ -115,7 +115,7 @@ module _ (k : ℕ) where
     | inr apart ↦ sized_here ns (edit q sized m) n i ∙ ap (option_map sized) (edit_apart m q sized n apart)
   ]
 
-  sized_apart : (ns : List Name) (m : NodeMap) (n : Name) → (IsAmong n ns → ⊥) → get (edit_all (sizing k ns) m) n ≡ get m n
+  pub sized_apart : (ns : List Name) (m : NodeMap) (n : Name) → (IsAmong n ns → ⊥) → get (edit_all (sizing k ns) m) n ≡ get m n
   sized_apart [] m n out = refl
   sized_apart (q ∷ ns) m n out = sized_apart ns (edit q sized m) n (λ i. out (inr i)) ∙ edit_apart m q sized n (λ e. out (inl (sym e)))
 

@@ -18,7 +18,7 @@ use Rattle.hurd_ports.specs.Tables.{Task}
 use Rattle.hurd_machine.specs.World.{World}
 
 -- other names of things
-pub record Renaming : Type 0 where
+pub record OtherNames : Type 0 where
   pub to : Name → Name
   -- different things have different ones
   pub apart : (n m : Name) → to n ≡ to m → n ≡ m
@@ -98,7 +98,7 @@ module _ (f : Name → Name) where
   tasks_renamed more (x ∷ xs) = task_renamed (more 0) x ∷ tasks_renamed (λ t. more (suc t)) xs
 
 -- the world with other names of things
-abbrev pub renamed : Renaming → World → World
+abbrev pub renamed : OtherNames → World → World
 renamed f w = record {
   nodes = map_renamed f.to (node_renamed f.to) w.nodes;
   sites = map_renamed f.to (site_renamed f.to) w.sites;

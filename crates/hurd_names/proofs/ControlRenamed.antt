@@ -3,20 +3,20 @@ use Rattle.std.proofs.Common.{◌≡◌, ℕ, List, Option, Result, Ok, Err, ref
 use Rattle.std.specs.Option.{option_map}
 use Rattle.hurd_machine.proofs.Common.{Control, EBADF, Errno, Io, Name, Right, ServerInfo, Start, World, or_refuse, ports_of, server_at, takes_options}
 use Rattle.hurd_ports.specs.Tables.{right_of}
-use Rattle.hurd_machine.specs.Renamed.{Renaming, info_renamed, renamed, right_renamed}
+use Rattle.hurd_machine.specs.Renamed.{OtherNames, info_renamed, renamed, right_renamed}
 use Rattle.hurd_machine.proofs.RenamedAsks.{takes_options-renamed}
 use Rattle.hurd_machine.proofs.RenamedPlans.{answer_renamed, answered-renamed, or_refuse-renamed}
 use Rattle.hurd_machine.proofs.RenamedServers.{server_at-renamed}
 use Rattle.hurd_machine.proofs.RenamedTasks.{right_of-renamed}
 use Rattle.hurd_core.specs.Control.{control_in, control_of, plan_options, server_in}
 
-module _ (f : Renaming) where
-  server_in-renamed : (r : Right) → server_in (right_renamed f.to r) ≡ option_map f.to (server_in r)
+module _ (f : OtherNames) where
+  pub server_in-renamed : (r : Right) → server_in (right_renamed f.to r) ≡ option_map f.to (server_in r)
   server_in-renamed (Io r) = refl
   server_in-renamed (Control s) = refl
   server_in-renamed (Start n) = refl
 
-  control_in-renamed : (r : Result Right Errno) → control_in (answer_renamed (right_renamed f.to) r) ≡ answer_renamed f.to (control_in r)
+  pub control_in-renamed : (r : Result Right Errno) → control_in (answer_renamed (right_renamed f.to) r) ≡ answer_renamed f.to (control_in r)
   control_in-renamed (Err e) = refl
   control_in-renamed (Ok r) = ap (or_refuse EBADF) (server_in-renamed r) ∙ or_refuse-renamed f.to EBADF (server_in r)
 

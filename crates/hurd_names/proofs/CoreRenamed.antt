@@ -4,7 +4,7 @@ use Rattle.std.specs.Prelude.{nat_lt}
 use Rattle.std.specs.Option.{option_map}
 use Rattle.hurd_trans_iface.specs.declared.root.Crossing.TheVariants.{Union}
 use Rattle.hurd_machine.proofs.Common.{Crossing, Dir, File, Name, ServerInfo, Task, World, info_at}
-use Rattle.hurd_machine.specs.Renamed.{Renaming, info_renamed, renamed, right_renamed, task_renamed}
+use Rattle.hurd_machine.specs.Renamed.{OtherNames, info_renamed, renamed, right_renamed, task_renamed}
 use Rattle.hurd_machine.proofs.RenamedAsks.{makes_at-renamed}
 use Rattle.hurd_machine.proofs.RenamedNodes.{home_at-renamed}
 use Rattle.hurd_machine.proofs.RenamedPlans.{answer_renamed, first-given, first-renamed, given-renamed, on-renamed}
@@ -14,7 +14,7 @@ use Rattle.hurd_names.proofs.LookupRenamed.{new_node_renamed}
 use Rattle.hurd_core.specs.Branches.{branches, branches_at, branches_by}
 use Rattle.hurd_core.specs.Core.{NewNodeAt, making_asks, making_dir_asks, naming_asks, receive_asks, room_asks, send_asks}
 
-module _ (f : Renaming) where
+module _ (f : OtherNames) where
   -- a task that has made no more
   abbrev pub caller_renamed : Task → Task
   caller_renamed x = task_renamed f.to 0 x
@@ -25,11 +25,11 @@ module _ (f : Renaming) where
 
   -- unions
 
-  branches-renamed : (c : Crossing) (ns : List Name) → branches c (map f.to ns) ≡ map f.to (branches c ns)
+  pub branches-renamed : (c : Crossing) (ns : List Name) → branches c (map f.to ns) ≡ map f.to (branches c ns)
   branches-renamed Union ns = refl
   branches-renamed _ ns = refl
 
-  branches_by-renamed : (o : Option ServerInfo) → branches_by (option_map (info_renamed f.to) o) ≡ map f.to (branches_by o)
+  pub branches_by-renamed : (o : Option ServerInfo) → branches_by (option_map (info_renamed f.to) o) ≡ map f.to (branches_by o)
   branches_by-renamed None = refl
   branches_by-renamed (Some i) = branches-renamed _ i.targets
 

@@ -9,7 +9,7 @@ use Rattle.hurd_creds.specs.Bits.{WRITE, asks}
 use Rattle.hurd_ports.specs.declared.parents.Parent.{Parent}
 use Rattle.hurd_machine.proofs.Common.{Errno, Name, Task, World}
 use Rattle.hurd_machine.specs.declared.call.Reply.TheVariants.{Found}
-use Rattle.hurd_machine.specs.Renamed.{Renaming, renamed, task_renamed}
+use Rattle.hurd_machine.specs.Renamed.{OtherNames, renamed, task_renamed}
 use Rattle.hurd_machine.proofs.RenamedAsks.{makes_at-renamed}
 use Rattle.hurd_machine.proofs.RenamedHandles.{on_header-renamed, on_right-renamed}
 use Rattle.hurd_machine.proofs.RenamedNodes.{home_at-renamed}
@@ -22,9 +22,9 @@ use Rattle.hurd_names.proofs.LookupRenamed.{Asked, authority_renamed, outcome_re
 use Rattle.hurd_names.proofs.CoreRenamed.{room_asks-renamed}
 use Rattle.hurd_names.proofs.WalkRenamed.{walk-renamed}
 
-module _ (f : Renaming) where
+module _ (f : OtherNames) where
   -- what is told, once it is done
-  lookup_told-renamed : (x : Task) (o : Outcome) → lookup_told (task_renamed f.to 0 x) (outcome_renamed f.to o) ≡ lookup_told x o
+  pub lookup_told-renamed : (x : Task) (o : Outcome) → lookup_told (task_renamed f.to 0 x) (outcome_renamed f.to o) ≡ lookup_told x o
   lookup_told-renamed x (Opens e) = refl
   lookup_told-renamed x (Makes s m ids ways) = refl
   lookup_told-renamed x (Retries kind name None) = refl
@@ -32,11 +32,11 @@ module _ (f : Renaming) where
   lookup_told-renamed x (Starts s) = refl
 
   -- an outcome, and the task that makes a port of it
-  abbrev whole_renamed : Outcome × Task → Outcome × Task
+  abbrev pub whole_renamed : Outcome × Task → Outcome × Task
   whole_renamed l = (outcome_renamed f.to l.0, task_renamed f.to 0 l.1)
 
   module _ (w : World) where
-    open_asks-renamed : (ids : IdSets) (r : Asked) (n : Name) (ways : List Parent)
+    pub open_asks-renamed : (ids : IdSets) (r : Asked) (n : Name) (ways : List Parent)
         → open_asks (renamed f w) ids r (f.to n) (ways_renamed f.to ways) ≡ answer_renamed (outcome_renamed f.to) (open_asks w ids r n ways)
     open_asks-renamed ids r n ways =
         on_header-renamed f w (outcome_renamed f.to) EDIED n _ _ (λ h.
@@ -45,7 +45,7 @@ module _ (f : Renaming) where
         given-renamed (outcome_renamed f.to) EROFS _ (ap (λ (b : Bool). not (asks r.flags WRITE && b)) (only_reads-renamed f w n)) (
         given-renamed (outcome_renamed f.to) EACCES _ refl refl))))
 
-    make_asks-renamed : (q : Authority) (r : Asked) (d : Name) (name : List ℕ)
+    pub make_asks-renamed : (q : Authority) (r : Asked) (d : Name) (name : List ℕ)
         → make_asks (renamed f w) (authority_renamed f.to q) r (f.to d) name ≡ answer_renamed (outcome_renamed f.to) (make_asks w q r d name)
     make_asks-renamed q r d name =
         first-given (outcome_renamed f.to) _ _ (makes_at-renamed f w d (Some name) File) (λ u.
@@ -72,14 +72,14 @@ module _ (f : Renaming) where
 
     -- of a task that has made no more
     module _ (t : ℕ) (none : f.more t ≡ 0) where
-      ending_asks-renamed : (o : Outcome) → ending_asks (renamed f w) t (outcome_renamed f.to o) ≡ answer_renamed (task_renamed f.to 0) (ending_asks w t o)
+      pub ending_asks-renamed : (o : Outcome) → ending_asks (renamed f w) t (outcome_renamed f.to o) ≡ answer_renamed (task_renamed f.to 0) (ending_asks w t o)
       ending_asks-renamed (Opens e) = room_asks-renamed f w t none 1
       ending_asks-renamed (Makes s m ids ways) = room_asks-renamed f w t none 2
       ending_asks-renamed (Retries kind name None) = on-renamed (task_renamed f.to 0) (task_renamed f.to 0) ESRCH _ _ _ (caller-renamed f w t none) (λ x. refl)
       ending_asks-renamed (Retries kind name (Some e)) = room_asks-renamed f w t none 1
       ending_asks-renamed (Starts s) = on-renamed (task_renamed f.to 0) (task_renamed f.to 0) ESRCH _ _ _ (caller-renamed f w t none) (λ x. refl)
 
-      whole_asks-renamed : (found other : Result Outcome Errno) → other ≡ answer_renamed (outcome_renamed f.to) found
+      pub whole_asks-renamed : (found other : Result Outcome Errno) → other ≡ answer_renamed (outcome_renamed f.to) found
           → whole_asks (renamed f w) t other ≡ answer_renamed whole_renamed (whole_asks w t found)
       whole_asks-renamed found other is =
           first-renamed (outcome_renamed f.to) whole_renamed _ _ _ is (λ o. first-renamed (task_renamed f.to 0) whole_renamed _ _ _ (ending_asks-renamed o) (λ x. refl))

@@ -4,7 +4,7 @@ use Rattle.std.specs.Prelude.{is_none}
 use Rattle.std.specs.Option.{option_map}
 use Rattle.hurd_machine.proofs.Common.{EACCES, ENOENT, ENOTDIR, EROFS, Mode, Named, OpenFlags, World, body_at, entry_of, is_dir}
 use Rattle.hurd_machine.specs.Plan.{first, given}
-use Rattle.hurd_machine.specs.Renamed.{Renaming, renamed}
+use Rattle.hurd_machine.specs.Renamed.{OtherNames, renamed}
 use Rattle.hurd_machine.proofs.RenamedHandles.{named_renamed, port_asks-renamed}
 use Rattle.hurd_machine.proofs.RenamedNodes.{entry_at-renamed}
 use Rattle.hurd_machine.proofs.RenamedPlans.{answer_renamed, answered-renamed, first-given, first-renamed, given-renamed, on-given}
@@ -20,11 +20,11 @@ is_none-mapped : {A B : Type 0} (g : A → B) (o : Option A) → is_none (option
 is_none-mapped g None = refl
 is_none-mapped g (Some x) = refl
 
-module _ (f : Renaming) (w : World) where
-  tree_asks-renamed : (a : Named) → tree_asks (renamed f w) (named_renamed f a) ≡ tree_asks w a
+module _ (f : OtherNames) (w : World) where
+  pub tree_asks-renamed : (a : Named) → tree_asks (renamed f w) (named_renamed f a) ≡ tree_asks w a
   tree_asks-renamed a = ap (λ (tree : Bool). given ENOTDIR (is_dir a.header.kind) (given EROFS tree (Ok tt))) (tree_at-renamed f w a.right.node)
 
-  change_asks-renamed : (a : Named) → change_asks (renamed f w) (named_renamed f a) ≡ change_asks w a
+  pub change_asks-renamed : (a : Named) → change_asks (renamed f w) (named_renamed f a) ≡ change_asks w a
   change_asks-renamed a = ap (λ (gone : Bool). given EACCES (may_change a) (given ENOENT (not gone) (Ok tt))) (is_removed-renamed f w a.right.node a.header)
 
   pub dir_asks-renamed : (a : Named) → dir_asks (renamed f w) (named_renamed f a) ≡ dir_asks w a
@@ -34,16 +34,16 @@ module _ (f : Renaming) (w : World) where
   entry_asks-renamed t p name = first-renamed (named_renamed f) (named_renamed f) _ _ _ (port_asks-renamed f w t p) (λ a.
       first-given (named_renamed f) _ _ refl (λ u. first-given (named_renamed f) _ _ (dir_asks-renamed a) (λ v. refl)))
 
-  mkdir_asks-renamed : (t p : ℕ) (name : List ℕ) (mode : Mode) → mkdir_asks (renamed f w) t p name mode ≡ answer_renamed (new_node_renamed f.to) (mkdir_asks w t p name mode)
+  pub mkdir_asks-renamed : (t p : ℕ) (name : List ℕ) (mode : Mode) → mkdir_asks (renamed f w) t p name mode ≡ answer_renamed (new_node_renamed f.to) (mkdir_asks w t p name mode)
   mkdir_asks-renamed t p name mode = first-renamed (named_renamed f) (new_node_renamed f.to) _ _ _ (entry_asks-renamed t p name) (λ a.
       on-given (new_node_renamed f.to) _ _ _ refl (λ owner.
       given-renamed (new_node_renamed f.to) _ _ (ap is_none (entry_at-renamed f w a.right.node name) ∙ is_none-mapped f.to (entry_of name (body_at w a.right.node))) refl))
 
   -- a file that is to be made, and the port that makes it
-  abbrev file_renamed : Named × NewNodeAt → Named × NewNodeAt
+  abbrev pub file_renamed : Named × NewNodeAt → Named × NewNodeAt
   file_renamed a = (named_renamed f a.0, new_node_renamed f.to a.1)
 
-  mkfile_asks-renamed : (t p : ℕ) (mode : Mode) → mkfile_asks (renamed f w) t p mode ≡ answer_renamed file_renamed (mkfile_asks w t p mode)
+  pub mkfile_asks-renamed : (t p : ℕ) (mode : Mode) → mkfile_asks (renamed f w) t p mode ≡ answer_renamed file_renamed (mkfile_asks w t p mode)
   mkfile_asks-renamed t p mode = first-renamed (named_renamed f) file_renamed _ _ _ (port_asks-renamed f w t p) (λ a.
       first-given file_renamed _ _ (dir_asks-renamed a) (λ u. on-given file_renamed _ _ _ refl (λ owner. refl)))
 

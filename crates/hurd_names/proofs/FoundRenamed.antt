@@ -6,7 +6,7 @@ use Rattle.hurd_machine.proofs.Common.{Body, Content, Header, Io, IoRight, IsAmo
 use Rattle.hurd_creds.proofs.NameLaws.{equal_if_same, same_name-itself}
 use Rattle.hurd_nodes.proofs.PartLaws.{mapped-some}
 use Rattle.hurd_trans_iface.specs.Nodes.{Entry}
-use Rattle.hurd_machine.specs.Renamed.{Renaming, body_renamed, entry_renamed, header_renamed, io_renamed, map_renamed, node_renamed, renamed, right_renamed, site_renamed, task_renamed}
+use Rattle.hurd_machine.specs.Renamed.{OtherNames, body_renamed, entry_renamed, header_renamed, io_renamed, map_renamed, node_renamed, renamed, right_renamed, site_renamed, task_renamed}
 use Rattle.hurd_machine.proofs.Holders.{any_among, any_of}
 use Rattle.hurd_machine.proofs.RenamedMaps.{get-renamed, origin}
 use Rattle.hurd_machine.proofs.RenamedTasks.{rights_of-renamed, task_at-renamed}
@@ -22,7 +22,7 @@ module _ {A B : Type 0} (g : A → B) where
   of_among (x ∷ xs) P holds y (inl e) = subst P e (holds x (inl refl))
   of_among (x ∷ xs) P holds y (inr at) = of_among xs P (λ z in_rest. holds z (inr in_rest)) y at
 
-module _ (f : Renaming) where
+module _ (f : OtherNames) where
   -- what holds of all that stands in a map holds of what stands there with other names
   module _ {X Y : Type 0} (g : X → Y) where
     pub of_found : (m : NameMap X) (P : Name → Y → Type 0) → ((n : Name) (x : X) → get m n ≡ Some x → P (f.to n) (g x)) → (q : Name) (y : Y) → get (map_renamed f.to g m) q ≡ Some y → P q y

@@ -2,7 +2,7 @@
 use Rattle.std.proofs.Common.{◌≡◌, ◌||◌, ◌&&◌, ◌==◌, not, ℕ, Bool, List, Result, refl, ap₂}
 use Rattle.hurd_creds.specs.declared.trans_flags.GoawayFlags.{GoawayFlags}
 use Rattle.hurd_machine.proofs.Common.{EBUSY, EDIED, ENXIO, EPERM, Errno, FORCE, Name, World, asks_goaway}
-use Rattle.hurd_machine.specs.Renamed.{Renaming, info_renamed, renamed, task_renamed}
+use Rattle.hurd_machine.specs.Renamed.{OtherNames, info_renamed, renamed, task_renamed}
 use Rattle.hurd_machine.proofs.RenamedHandles.{named_renamed, port_asks-renamed}
 use Rattle.hurd_machine.proofs.RenamedNodes.{active_at-renamed, boot_name-renamed, home_at-renamed}
 use Rattle.hurd_machine.proofs.RenamedPlans.{answer_renamed, answered-renamed, answered-given, first-renamed, first-told, given-renamed, on-renamed}
@@ -14,7 +14,7 @@ use Rattle.hurd_fsys.specs.Owned.{owned_asks}
 use Rattle.hurd_names.proofs.ControlRenamed.{control_of-renamed, options_told}
 use Rattle.hurd_names.proofs.CoreRenamed.{room_asks-renamed}
 
-module _ (f : Renaming) where
+module _ (f : OtherNames) where
   -- a server that a port controls with other names
   abbrev pub controlled_renamed : Controlled → Controlled
   controlled_renamed k = record { server = f.to k.server; info = info_renamed f.to k.info }
@@ -30,10 +30,10 @@ module _ (f : Renaming) where
 
     -- fsys_goaway
 
-    may_go-renamed : (s : Name) (force : Bool) → may_go (renamed f w) (f.to s) force ≡ may_go w s force
+    pub may_go-renamed : (s : Name) (force : Bool) → may_go (renamed f w) (f.to s) force ≡ may_go w s force
     may_go-renamed s force = ap₂ (λ (boot : Bool) (count : ℕ). not boot && (force || (count == 0))) (boot_name-renamed f s) (users-renamed f w s)
 
-    goaway_asks-renamed : (c : ℕ) (flags : GoawayFlags) → goaway_asks (renamed f w) t c flags ≡ answer_renamed f.to (goaway_asks w t c flags)
+    pub goaway_asks-renamed : (c : ℕ) (flags : GoawayFlags) → goaway_asks (renamed f w) t c flags ≡ answer_renamed f.to (goaway_asks w t c flags)
     goaway_asks-renamed c flags =
         first-renamed controlled_renamed f.to _ _ _ (control_asks-renamed c) (λ k. given-renamed f.to EBUSY _ (may_go-renamed k.server (asks_goaway flags FORCE)) refl)
 
@@ -52,17 +52,17 @@ module _ (f : Renaming) where
 
     -- which server is asked for to control it
 
-    seated_asks-renamed : (p : ℕ) → seated_asks (renamed f w) t p ≡ answer_renamed f.to (seated_asks w t p)
+    pub seated_asks-renamed : (p : ℕ) → seated_asks (renamed f w) t p ≡ answer_renamed f.to (seated_asks w t p)
     seated_asks-renamed p = first-renamed (named_renamed f) f.to _ _ _ (owned_asks-renamed p) (λ n. on-renamed f.to f.to ENXIO _ _ _ (active_at-renamed f w n.right.node) (λ s. refl))
 
-    served_asks-renamed : (p : ℕ) → served_asks (renamed f w) t p ≡ answer_renamed f.to (served_asks w t p)
+    pub served_asks-renamed : (p : ℕ) → served_asks (renamed f w) t p ≡ answer_renamed f.to (served_asks w t p)
     served_asks-renamed p =
         first-renamed (named_renamed f) f.to _ _ _ (port_asks-renamed f w t p) (λ n.
         on-renamed f.to f.to EDIED _ _ _ (home_at-renamed f w n.right.node) (λ s.
         on-renamed (info_renamed f.to) f.to EDIED _ _ _ (server_at-renamed f w s) (λ i. given-renamed f.to EPERM _ refl refl)))
 
     module _ (none : f.more t ≡ 0) where
-      control_told : (there here : Result Name Errno) → there ≡ answer_renamed f.to here → (plan_control (renamed f w) t there).reply ≡ (plan_control w t here).reply
+      pub control_told : (there here : Result Name Errno) → there ≡ answer_renamed f.to here → (plan_control (renamed f w) t there).reply ≡ (plan_control w t here).reply
       control_told there here is = answered-renamed f.to here _ _ is (λ s. answered-renamed (task_renamed f.to 0) _ _ _ (room_asks-renamed f w t none 0) (λ x. refl))
 
       -- file_get_translator_cntl

@@ -3,16 +3,16 @@ use Rattle.std.proofs.Common.{◌≡◌, Some, refl, subst}
 use Rattle.hurd_ports.specs.Tables.{nodes_of as nodes_named}
 use Rattle.hurd_machine.proofs.Common.{Below, Control, Header, Io, IsAmong, IsGivenRight, Name, Node, Opened, Right, ServerInfo, Start, World}
 use Rattle.hurd_machine.specs.Sound.{AreGiven}
-use Rattle.hurd_machine.specs.Renamed.{Renaming, node_renamed, open_renamed, renamed, right_renamed}
+use Rattle.hurd_machine.specs.Renamed.{OtherNames, node_renamed, open_renamed, renamed, right_renamed}
 use Rattle.hurd_machine.proofs.RenamedTasks.{nodes_of-renamed}
 use Rattle.hurd_names.proofs.FoundRenamed.{of_among, of_entries, of_found, of_headers, of_mapped, of_rights}
 use Rattle.hurd_names.proofs.HousedRenamed.{of_servers}
 
 -- each name that was given goes to one that was
-abbrev pub StaysGiven : Renaming → World → Type 0
+abbrev pub StaysGiven : OtherNames → World → Type 0
 StaysGiven f w = (n : Name) → Below w n → Below (renamed f w) (f.to n)
 
-module _ (f : Renaming) (w : World) where
+module _ (f : OtherNames) (w : World) where
   abbrev other : World
   other = renamed f w
 

@@ -9,12 +9,12 @@ use Rattle.hurd_trans_iface.specs.Meaning.{keeps_tree, root_of, targets_of}
 use Rattle.hurd_machine.proofs.Common.{AreSeated, CanBeAt, CanBeWritten, Header, IsAmong, Name, ServerInfo, World, active_in, boot_name, gives_text, header_at, home_in, is_dir, same_name, server_at}
 use Rattle.hurd_machine.specs.Sound.{AreHoused, AreOfKind}
 use Rattle.hurd_machine.specs.World.{nodes_of}
-use Rattle.hurd_machine.specs.Renamed.{Renaming, header_renamed, info_renamed, renamed}
+use Rattle.hurd_machine.specs.Renamed.{OtherNames, header_renamed, info_renamed, renamed}
 use Rattle.hurd_machine.proofs.RenamedNodes.{boot_name-renamed, header_at-renamed, home_at-renamed}
 use Rattle.hurd_machine.proofs.RenamedServers.{leads_on-renamed, server_at-renamed, shape_at-renamed}
 use Rattle.hurd_names.proofs.FoundRenamed.{of_actives, of_among, of_found, of_headers, of_homes, of_mapped}
 
-module _ (f : Renaming) (w : World) where
+module _ (f : OtherNames) (w : World) where
   abbrev other : World
   other = renamed f w
 

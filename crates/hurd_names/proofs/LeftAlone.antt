@@ -4,11 +4,11 @@ use Rattle.std.specs.Option.{option_map}
 use Rattle.hurd_creds.specs.NameMaps.{NameMap}
 use Rattle.hurd_ports.specs.declared.table.Port.{Port}
 use Rattle.hurd_machine.proofs.Common.{Body, Content, Control, Io, Listing, Name, Node, PendingStart, Right, ServerInfo, Site, Start, Task, World, get}
-use Rattle.hurd_machine.specs.Renamed.{Renaming, body_renamed, entry_renamed, info_renamed, map_renamed, node_renamed, open_renamed, port_renamed, renamed, right_renamed, site_renamed, start_renamed, task_renamed, tasks_renamed, way_renamed}
+use Rattle.hurd_machine.specs.Renamed.{OtherNames, body_renamed, entry_renamed, info_renamed, map_renamed, node_renamed, open_renamed, port_renamed, renamed, right_renamed, site_renamed, start_renamed, task_renamed, tasks_renamed, way_renamed}
 use Rattle.hurd_machine.proofs.RenamedMaps.{is_renamed}
 
 -- all things keep their names, and nobody makes more
-abbrev pub same_names : Renaming
+abbrev pub same_names : OtherNames
 same_names = record { to = λ n. n; apart = λ n m e. e; boot = refl; more = λ t. 0 }
 
 abbrev own : Name → Name

@@ -31,3 +31,4 @@ pub mod LeftAlone
 pub mod Raised
 pub mod Untold
 pub mod SideBySide
+pub mod Served

@@ -4,7 +4,7 @@ use Rattle.hurd_creds.specs.declared.mode.Mode.{Mode}
 use Rattle.hurd_creds.specs.declared.open_flags.OpenFlags.{OpenFlags}
 use Rattle.hurd_creds.specs.declared.errno.Errno.TheVariants.{EDIED, ENOTDIR, ESRCH}
 use Rattle.hurd_machine.proofs.Common.{World}
-use Rattle.hurd_machine.specs.Renamed.{Renaming, info_renamed, renamed, task_renamed}
+use Rattle.hurd_machine.specs.Renamed.{OtherNames, info_renamed, renamed, task_renamed}
 use Rattle.hurd_machine.proofs.RenamedHandles.{on_header-renamed, on_right-renamed}
 use Rattle.hurd_machine.proofs.RenamedPlans.{answer_renamed, first-renamed, given-renamed, on-renamed}
 use Rattle.hurd_machine.proofs.RenamedServers.{server_at-renamed}
@@ -18,8 +18,8 @@ use Rattle.hurd_names.proofs.EndsRenamed.{end_asks-renamed, finding_told, found_
 use Rattle.hurd_names.proofs.NestedRenamed.{sooner-renamed}
 use Rattle.hurd_names.proofs.WalkRenamed.{cross-renamed}
 
-module _ (f : Renaming) (w : World) (t : ℕ) where
-  entrance_asks-renamed : (c dir : ℕ) → entrance_asks (renamed f w) t c dir ≡ answer_renamed (entrance_renamed f.to) (entrance_asks w t c dir)
+module _ (f : OtherNames) (w : World) (t : ℕ) where
+  pub entrance_asks-renamed : (c dir : ℕ) → entrance_asks (renamed f w) t c dir ≡ answer_renamed (entrance_renamed f.to) (entrance_asks w t c dir)
   entrance_asks-renamed c dir =
       first-renamed f.to (entrance_renamed f.to) _ _ _ (control_of-renamed f w t c) (λ s.
       on_right-renamed f w (entrance_renamed f.to) t dir _ _ (λ q.
@@ -28,12 +28,12 @@ module _ (f : Renaming) (w : World) (t : ℕ) where
       given-renamed (entrance_renamed f.to) ENOTDIR _ refl (
       on-renamed (task_renamed f.to (f.more t)) (entrance_renamed f.to) ESRCH _ _ _ (task_at-renamed f w t) (λ x. refl))))))
 
-  getroot_asks-renamed : (c dir : ℕ) (r : Asked) → getroot_asks (renamed f w) t c dir r ≡ answer_renamed (outcome_renamed f.to) (getroot_asks w t c dir r)
+  pub getroot_asks-renamed : (c dir : ℕ) (r : Asked) → getroot_asks (renamed f w) t c dir r ≡ answer_renamed (outcome_renamed f.to) (getroot_asks w t c dir r)
   getroot_asks-renamed c dir r =
       first-renamed (entrance_renamed f.to) (outcome_renamed f.to) _ _ _ (entrance_asks-renamed c dir) (λ e.
       first-renamed (place_renamed f.to) (outcome_renamed f.to) _ _ _ (cross-renamed f w e.authority r e.start e.root []) (end_asks-renamed f w e.authority r))
 
-  seeking_asks-renamed : (p : ℕ) (path : List ℕ) (flags : OpenFlags) (mode : Mode)
+  pub seeking_asks-renamed : (p : ℕ) (path : List ℕ) (flags : OpenFlags) (mode : Mode)
       → seeking_asks (renamed f w) t p path flags mode ≡ answer_renamed (outcome_renamed f.to) (seeking_asks w t p path flags mode)
   seeking_asks-renamed p path flags mode =
       first-renamed (outcome_renamed f.to) (outcome_renamed f.to) _ _ _ (found_asks-renamed f w t p path (request path flags mode)) (sooner-renamed f w t)

@@ -7,7 +7,7 @@ use Rattle.hurd_machine.specs.declared.call.Whence.{Whence}
 use Rattle.hurd_machine.specs.declared.call.Whence.TheVariants.{Current, End, Set}
 use Rattle.hurd_machine.specs.declared.handle.Handle.{Handle}
 use Rattle.hurd_machine.specs.Plan.{given}
-use Rattle.hurd_machine.specs.Renamed.{Renaming, io_renamed, renamed}
+use Rattle.hurd_machine.specs.Renamed.{OtherNames, io_renamed, renamed}
 use Rattle.hurd_machine.proofs.RenamedAsks.{readable_at-renamed}
 use Rattle.hurd_machine.proofs.RenamedHandles.{both_asks-renamed, both_renamed, handle_asks-renamed, handle_renamed, named_renamed, port_asks-renamed}
 use Rattle.hurd_machine.proofs.RenamedMaps.{same_name-renamed}
@@ -16,7 +16,7 @@ use Rattle.hurd_io.specs.Opens.{origin, place_asks, plan_get_openmodes, plan_rea
 use Rattle.hurd_io.specs.Sharing.{ids_among, ids_of_port, ids_of_task, plan_duplicate, plan_identity, plan_reauthenticate, plan_restrict_auth, plan_share, share_asks}
 use Rattle.hurd_names.proofs.CoreRenamed.{caller_renamed, room_asks-renamed}
 
-module _ (f : Renaming) where
+module _ (f : OtherNames) where
   -- an open with another name, and a place in it
   abbrev pub sought_renamed : Name × ℕ → Name × ℕ
   sought_renamed s = (f.to s.0, s.1)
@@ -25,25 +25,25 @@ module _ (f : Renaming) where
   abbrev pub shared_renamed : IoRight × Task → IoRight × Task
   shared_renamed a = (io_renamed f.to a.0, caller_renamed f a.1)
 
-  origin-renamed : (whence : Whence) (a : Handle) → origin whence (handle_renamed f a) ≡ origin whence a
+  pub origin-renamed : (whence : Whence) (a : Handle) → origin whence (handle_renamed f a) ≡ origin whence a
   origin-renamed Set a = refl
   origin-renamed Current a = refl
   origin-renamed End a = refl
 
   module _ (w : World) (t : ℕ) where
-    seek_asks-renamed : (p : ℕ) (offset : ℤ) (whence : Whence) → seek_asks (renamed f w) t p offset whence ≡ answer_renamed sought_renamed (seek_asks w t p offset whence)
+    pub seek_asks-renamed : (p : ℕ) (offset : ℤ) (whence : Whence) → seek_asks (renamed f w) t p offset whence ≡ answer_renamed sought_renamed (seek_asks w t p offset whence)
     seek_asks-renamed p offset whence = first-renamed (handle_renamed f) sought_renamed _ _ _ (handle_asks-renamed f w t p any_mode) (λ a.
         first-given sought_renamed _ _ (ap (λ (n : ℕ). place_asks (pos n +ℤ offset)) (origin-renamed whence a)) (λ at. refl))
 
-    readable_asks-renamed : (p : ℕ) → readable_asks (renamed f w) t p ≡ readable_asks w t p
+    pub readable_asks-renamed : (p : ℕ) → readable_asks (renamed f w) t p ≡ readable_asks w t p
     readable_asks-renamed p = first-told (handle_renamed f) _ _ _ (handle_asks-renamed f w t p READ) (λ a.
         ap (λ (n : ℕ). given EISDIR (not (is_dir a.kind)) (Ok n)) (readable_at-renamed f w a.node a.opened.cursor))
 
-    share_asks-renamed : f.more t ≡ 0 → (p : ℕ) → share_asks (renamed f w) t p ≡ answer_renamed shared_renamed (share_asks w t p)
+    pub share_asks-renamed : f.more t ≡ 0 → (p : ℕ) → share_asks (renamed f w) t p ≡ answer_renamed shared_renamed (share_asks w t p)
     share_asks-renamed none p = first-renamed (named_renamed f) shared_renamed _ _ _ (port_asks-renamed f w t p) (λ n.
         first-renamed (caller_renamed f) shared_renamed _ _ _ (room_asks-renamed f w t none 0) (λ x. refl))
 
-module _ (f : Renaming) (w : World) (t : ℕ) where
+module _ (f : OtherNames) (w : World) (t : ℕ) where
   pub seek_told : (p : ℕ) (offset : ℤ) (whence : Whence) → (plan_seek (renamed f w) t p offset whence).reply ≡ (plan_seek w t p offset whence).reply
   seek_told p offset whence = answered-renamed (sought_renamed f) _ _ _ (seek_asks-renamed f w t p offset whence) (λ s. refl)
 
@@ -62,7 +62,7 @@ module _ (f : Renaming) (w : World) (t : ℕ) where
   -- one port more, whatever its ids
 
   module _ (none : f.more t ≡ 0) where
-    share_told : (p : ℕ) (ids : IdSets → IdSets → IdSets) → (plan_share (renamed f w) t p ids).reply ≡ (plan_share w t p ids).reply
+    pub share_told : (p : ℕ) (ids : IdSets → IdSets → IdSets) → (plan_share (renamed f w) t p ids).reply ≡ (plan_share w t p ids).reply
     share_told p ids = answered-renamed (shared_renamed f) _ _ _ (share_asks-renamed f w t none p) (λ a. refl)
 
     pub duplicate_told : (p : ℕ) → (plan_duplicate (renamed f w) t p).reply ≡ (plan_duplicate w t p).reply

@@ -2,7 +2,7 @@
 use Rattle.std.proofs.Common.{◌≡◌, ◌<◌, ◌≤◌, ◌+◌, ℕ, Bool, Some, refl, sym, subst, arith}
 use Rattle.hurd_machine.proofs.Common.{SameView, Task, World, task_at}
 use Rattle.hurd_machine.specs.Sound.{AreGiven}
-use Rattle.hurd_machine.specs.Renamed.{Renaming, renamed}
+use Rattle.hurd_machine.specs.Renamed.{OtherNames, renamed}
 use Rattle.hurd_names.specs.Untold.{KeepsGiven, RaisedLooksSame, RaisesCounts}
 use Rattle.hurd_names.proofs.GivenRenamed.{StaysGiven, given-renamed}
 use Rattle.hurd_names.proofs.LeftAlone.{left_alone, same_names}
@@ -12,7 +12,7 @@ no_further : (a b d m : ℕ) → a ≤ b + d → b < m → a < m + d
 no_further a b d m most below = omega (arith, most, below)
 
 -- where counts are raised by no more than that, names that were given stay so
-pub stays_given : (f : Renaming) (w : World) → RaisesCounts f → StaysGiven f w
+pub stays_given : (f : OtherNames) (w : World) → RaisesCounts f → StaysGiven f w
 stays_given f w raises n given x is =
     at_task f w n.task.0 (λ (x : Task). (f.to n).count < x.made) (λ x is. no_further (f.to n).count n.count (f.more n.task.0) x.made (raises.count n) (given x is))
     x (subst (λ (t : ℕ). task_at (renamed f w) t ≡ Some x) (raises.task n) is)

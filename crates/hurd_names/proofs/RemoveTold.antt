@@ -2,7 +2,7 @@
 use Rattle.std.proofs.Common.{◌≡◌, ℕ, List, Option, Some, None, is_some, not, refl, ap, ◌∙◌}
 use Rattle.std.specs.Option.{option_map}
 use Rattle.hurd_machine.proofs.Common.{Body, EDIED, Name, World, active_at, body_at}
-use Rattle.hurd_machine.specs.Renamed.{Renaming, body_renamed, header_renamed, renamed}
+use Rattle.hurd_machine.specs.Renamed.{OtherNames, body_renamed, header_renamed, renamed}
 use Rattle.hurd_machine.proofs.RenamedAsks.{links_at-renamed}
 use Rattle.hurd_machine.proofs.RenamedHandles.{both_asks-renamed, both_renamed, named_renamed, on_header-renamed}
 use Rattle.hurd_machine.proofs.RenamedNodes.{active_at-renamed, body_at-renamed, entry_at-renamed, is_empty_dir-renamed, is_some-mapped, kin_at-renamed}
@@ -16,16 +16,16 @@ use Rattle.hurd_names.proofs.EntryTold.{dir_asks-renamed, entry_asks-renamed}
 abbrev FileToName : Type 0
 FileToName = Third link
 
-module _ (f : Renaming) where
+module _ (f : OtherNames) where
   -- an entry: its directory and what it names have other names
   abbrev pub entered_renamed : Entered → Entered
   entered_renamed x = record { dir = f.to x.dir; node = f.to x.node; header = header_renamed f.to x.header }
 
   -- a file that gets a name, and the directory
-  abbrev to_name_renamed : FileToName → FileToName
+  abbrev pub to_name_renamed : FileToName → FileToName
   to_name_renamed n = record n { dir = f.to n.dir; file = f.to n.file }
 
-  is_empty_at-renamed : (o : Option Body) → is_empty_at (option_map (body_renamed f.to) o) ≡ is_empty_at o
+  pub is_empty_at-renamed : (o : Option Body) → is_empty_at (option_map (body_renamed f.to) o) ≡ is_empty_at o
   is_empty_at-renamed None = refl
   is_empty_at-renamed (Some b) = is_empty_dir-renamed f b
 
@@ -39,29 +39,29 @@ module _ (f : Renaming) where
     is_active-renamed = ap is_some (active_at-renamed f w n) ∙ is_some-mapped f.to (active_at w n)
 
   module _ (w : World) where
-    found_asks-renamed : (d : Name) (name : List ℕ) → found_asks (renamed f w) (f.to d) name ≡ answer_renamed entered_renamed (found_asks w d name)
+    pub found_asks-renamed : (d : Name) (name : List ℕ) → found_asks (renamed f w) (f.to d) name ≡ answer_renamed entered_renamed (found_asks w d name)
     found_asks-renamed d name = on-renamed f.to entered_renamed _ _ _ _ (entry_at-renamed f w d name) (λ n.
         on_header-renamed f w entered_renamed EDIED n _ _ (λ h. given-renamed entered_renamed _ _ (kin_at-renamed f w d n) refl))
 
     module _ (t p : ℕ) (name : List ℕ) where
-      taking_asks-renamed : taking_asks (renamed f w) t p name ≡ answer_renamed entered_renamed (taking_asks w t p name)
+      pub taking_asks-renamed : taking_asks (renamed f w) t p name ≡ answer_renamed entered_renamed (taking_asks w t p name)
       taking_asks-renamed = first-renamed (named_renamed f) entered_renamed _ _ _ (entry_asks-renamed f w t p name) (λ a.
           first-renamed entered_renamed entered_renamed _ _ _ (found_asks-renamed a.right.node name) (λ x. given-renamed entered_renamed _ _ refl refl))
 
-      unlink_asks-renamed : unlink_asks (renamed f w) t p name ≡ answer_renamed entered_renamed (unlink_asks w t p name)
+      pub unlink_asks-renamed : unlink_asks (renamed f w) t p name ≡ answer_renamed entered_renamed (unlink_asks w t p name)
       unlink_asks-renamed = first-renamed entered_renamed entered_renamed _ _ _ taking_asks-renamed (λ x. given-renamed entered_renamed _ _ refl refl)
 
-      rmdir_asks-renamed : rmdir_asks (renamed f w) t p name ≡ answer_renamed entered_renamed (rmdir_asks w t p name)
+      pub rmdir_asks-renamed : rmdir_asks (renamed f w) t p name ≡ answer_renamed entered_renamed (rmdir_asks w t p name)
       rmdir_asks-renamed = first-renamed entered_renamed entered_renamed _ _ _ taking_asks-renamed (λ x.
           given-renamed entered_renamed _ _ refl (
           given-renamed entered_renamed _ _ (ap not (is_active-renamed w x.node)) (
           given-renamed entered_renamed _ _ (empty_at-renamed w x.node) refl)))
 
-      link_asks-renamed : (q : ℕ) → link_asks (renamed f w) t p name q ≡ answer_renamed to_name_renamed (link_asks w t p name q)
+      pub link_asks-renamed : (q : ℕ) → link_asks (renamed f w) t p name q ≡ answer_renamed to_name_renamed (link_asks w t p name q)
       link_asks-renamed q = first-renamed (both_renamed f) to_name_renamed _ _ _ (both_asks-renamed f w t p q) (λ a.
           first-given to_name_renamed _ _ refl (λ u. first-given to_name_renamed _ _ (dir_asks-renamed f w a.0) (λ v. refl)))
 
-module _ (f : Renaming) (w : World) (t p : ℕ) (name : List ℕ) where
+module _ (f : OtherNames) (w : World) (t p : ℕ) (name : List ℕ) where
   pub unlink_told : (plan_unlink (renamed f w) t p name).reply ≡ (plan_unlink w t p name).reply
   unlink_told = answered-renamed (entered_renamed f) _ _ _ (unlink_asks-renamed f w t p name) (λ x. refl)
 

@@ -4,7 +4,7 @@ use Rattle.std.specs.Prelude.{◌&&◌}
 use Rattle.std.specs.Option.{option_map}
 use Rattle.hurd_machine.proofs.Common.{EACCES, EBUSY, EDIED, EISDIR, ENOTDIR, ENOTEMPTY, EROFS, EXDEV, Errno, Header, Name, Named, World, body_at, entry_of, header_at, is_dir}
 use Rattle.hurd_machine.specs.Plan.{given}
-use Rattle.hurd_machine.specs.Renamed.{Renaming, header_renamed, renamed}
+use Rattle.hurd_machine.specs.Renamed.{OtherNames, header_renamed, renamed}
 use Rattle.hurd_machine.proofs.RenamedHandles.{both_asks-renamed, both_renamed, named_renamed, on_header-renamed}
 use Rattle.hurd_machine.proofs.RenamedMaps.{same_name-renamed}
 use Rattle.hurd_machine.proofs.RenamedNodes.{entry_at-renamed, header_at-renamed, kin_at-renamed}
@@ -16,30 +16,30 @@ use Rattle.hurd_names.proofs.KeptTypes.{Third}
 use Rattle.hurd_names.proofs.RemoveTold.{empty_at-renamed, is_active-renamed}
 
 -- what goes where
-abbrev Move : Type 0
+abbrev pub Move : Type 0
 Move = Third renames
 
-module _ (f : Renaming) where
+module _ (f : OtherNames) where
   -- what goes, and its header
-  abbrev leaving_renamed : Name × Header → Name × Header
+  abbrev pub leaving_renamed : Name × Header → Name × Header
   leaving_renamed l = (f.to l.0, header_renamed f.to l.1)
 
   -- what goes where, with other names of all of it
-  abbrev move_renamed : Move → Move
+  abbrev pub move_renamed : Move → Move
   move_renamed r = record { from = f.to r.from; to = f.to r.to; node = f.to r.node; old = option_map f.to r.old }
 
   -- whether a directory is another, or below it
 
-  parent_in-renamed : (o : Option Header) → parent_in (option_map (header_renamed f.to) o) ≡ option_map f.to (parent_in o)
+  pub parent_in-renamed : (o : Option Header) → parent_in (option_map (header_renamed f.to) o) ≡ option_map f.to (parent_in o)
   parent_in-renamed None = refl
   parent_in-renamed (Some h) = refl
 
-  above-renamed : (p q : Name → Bool) → ((n : Name) → q (f.to n) ≡ p n) → (o : Option Name) → above q (option_map f.to o) ≡ above p o
+  pub above-renamed : (p q : Name → Bool) → ((n : Name) → q (f.to n) ≡ p n) → (o : Option Name) → above q (option_map f.to o) ≡ above p o
   above-renamed p q alike None = refl
   above-renamed p q alike (Some n) = alike n
 
   module _ (w : World) where
-    met_within-renamed : (k : ℕ) (n d : Name) → met_within k (renamed f w) (f.to n) (f.to d) ≡ met_within k w n d
+    pub met_within-renamed : (k : ℕ) (n d : Name) → met_within k (renamed f w) (f.to n) (f.to d) ≡ met_within k w n d
     unfolding met_within
     met_within-renamed zero n d = refl
     met_within-renamed (suc k) n d = ap₂ ◌||◌ (same_name-renamed f d n) (
@@ -47,18 +47,18 @@ module _ (f : Renaming) where
         ∙ ap (above (met_within k (renamed f w) (f.to n))) (parent_in-renamed (header_at w d))
         ∙ above-renamed (met_within k w n) (met_within k (renamed f w) (f.to n)) (met_within-renamed k n) (parent_in (header_at w d)))
 
-    is_inside-renamed : (n d : Name) → is_inside (renamed f w) (f.to n) (f.to d) ≡ is_inside w n d
+    pub is_inside-renamed : (n d : Name) → is_inside (renamed f w) (f.to n) (f.to d) ≡ is_inside w n d
     unfolding is_inside
     is_inside-renamed n d = met_within-renamed 18446744073709551615 n d
 
     -- both directories, what goes, and what gives way
 
-    trees_ask-renamed : (a b : Named) → trees_ask (renamed f w) (named_renamed f a) (named_renamed f b) ≡ trees_ask w a b
+    pub trees_ask-renamed : (a b : Named) → trees_ask (renamed f w) (named_renamed f a) (named_renamed f b) ≡ trees_ask w a b
     trees_ask-renamed a b =
         ap₂ (λ (trees kin : Bool). given ENOTDIR (is_dir a.header.kind && is_dir b.header.kind) (given EROFS trees (given EXDEV kin (given EACCES (may_change a && may_change b) (Ok tt)))))
         (ap₂ ◌&&◌ (tree_at-renamed f w a.right.node) (tree_at-renamed f w b.right.node)) (kin_at-renamed f w a.right.node b.right.node)
 
-    leaves_asks-renamed : (name : List ℕ) (a b : Named) → leaves_asks (renamed f w) name (named_renamed f a) (named_renamed f b) ≡ answer_renamed leaving_renamed (leaves_asks w name a b)
+    pub leaves_asks-renamed : (name : List ℕ) (a b : Named) → leaves_asks (renamed f w) name (named_renamed f a) (named_renamed f b) ≡ answer_renamed leaving_renamed (leaves_asks w name a b)
     leaves_asks-renamed name a b = given-renamed leaving_renamed _ _ (ap not (is_removed-renamed f w b.right.node b.header)) (
         on-renamed f.to leaving_renamed _ _ _ _ (entry_at-renamed f w a.right.node name) (λ n.
         on_header-renamed f w leaving_renamed EDIED n _ _ (λ k.
@@ -66,18 +66,18 @@ module _ (f : Renaming) where
         given-renamed leaving_renamed _ _ refl (
         given-renamed leaving_renamed _ _ (ap (λ (inside : Bool). not (is_dir k.kind && inside)) (is_inside-renamed n b.right.node)) refl)))))
 
-    gives_way-renamed : (b : Named) (k : Header) (m : Name) → gives_way (renamed f w) (named_renamed f b) (header_renamed f.to k) (f.to m) ≡ gives_way w b k m
+    pub gives_way-renamed : (b : Named) (k : Header) (m : Name) → gives_way (renamed f w) (named_renamed f b) (header_renamed f.to k) (f.to m) ≡ gives_way w b k m
     gives_way-renamed b k m = on-told (header_renamed f.to) _ _ _ _ (header_at-renamed f w m) (λ j.
         ap₂ (λ (kin : Bool) (rest : Result (Unit {0}) Errno). given EDIED kin (
         given EACCES (may_take b.right.ids b.header j) (given ENOTDIR (not (is_dir k.kind) || is_dir j.kind) (given EISDIR (is_dir k.kind || not (is_dir j.kind)) rest))))
         (kin_at-renamed f w b.right.node m)
         (ap₂ (λ (active empty : Bool). given EBUSY (not (is_dir j.kind && active)) (given ENOTEMPTY (not (is_dir j.kind) || empty) (Ok tt))) (is_active-renamed f w m) (empty_at-renamed f w m)))
 
-    old_asks-renamed : (b : Named) (l : Name × Header) (o : Option Name) → old_asks (renamed f w) (named_renamed f b) (leaving_renamed l) (option_map f.to o) ≡ old_asks w b l o
+    pub old_asks-renamed : (b : Named) (l : Name × Header) (o : Option Name) → old_asks (renamed f w) (named_renamed f b) (leaving_renamed l) (option_map f.to o) ≡ old_asks w b l o
     old_asks-renamed b l None = refl
     old_asks-renamed b l (Some m) = ap₂ (λ (same : Bool) (way : Result (Unit {0}) Errno). if same then Ok tt else way) (same_name-renamed f m l.0) (gives_way-renamed b l.1 m)
 
-    rename_asks-renamed : (t p : ℕ) (name : List ℕ) (q : ℕ) (new : List ℕ) → rename_asks (renamed f w) t p name q new ≡ answer_renamed move_renamed (rename_asks w t p name q new)
+    pub rename_asks-renamed : (t p : ℕ) (name : List ℕ) (q : ℕ) (new : List ℕ) → rename_asks (renamed f w) t p name q new ≡ answer_renamed move_renamed (rename_asks w t p name q new)
     rename_asks-renamed t p name q new = first-renamed (both_renamed f) move_renamed _ _ _ (both_asks-renamed f w t p q) (λ a.
         let old = entry_at-renamed f w a.1.right.node new in
         first-given move_renamed _ _ refl (λ u. first-given move_renamed _ _ refl (λ v.

@@ -5,7 +5,7 @@ use Rattle.hurd_creds.specs.declared.errno.Errno.TheVariants.{EDIED, ENAMETOOLON
 use Rattle.hurd_creds.specs.Access.{IdSets}
 use Rattle.hurd_machine.proofs.Common.{Errno, Name, World, header_at}
 use Rattle.hurd_machine.specs.Plan.{first}
-use Rattle.hurd_machine.specs.Renamed.{Renaming, header_renamed, renamed}
+use Rattle.hurd_machine.specs.Renamed.{OtherNames, header_renamed, renamed}
 use Rattle.hurd_machine.proofs.RenamedNodes.{header_at-renamed}
 use Rattle.hurd_machine.proofs.RenamedPlans.{answer_renamed, first-renamed, given-renamed}
 use Rattle.hurd_lookup.specs.Path.{names_in}
@@ -18,12 +18,12 @@ use Rattle.hurd_names.proofs.LookupRenamed.{Asked, Landed, leg_renamed, new_port
 use Rattle.hurd_names.proofs.Leading.{Leads, leads_first, leads_given, leads_on}
 use Rattle.hurd_names.proofs.WalkRenamed.{walk-renamed}
 
-module _ (f : Renaming) where
+module _ (f : OtherNames) where
   -- the root of the tree keeps its name
-  from_top-renamed : (path : List ℕ) → from_top path ≡ answer_renamed (leg_renamed f.to) (from_top path)
+  pub from_top-renamed : (path : List ℕ) → from_top path ≡ answer_renamed (leg_renamed f.to) (from_top path)
   from_top-renamed path = given-renamed (leg_renamed f.to) ENOENT _ refl (ap (λ n. Ok (record { node = n; ways = []; path = path })) (sym f.boot))
 
-  leg_at-renamed : (name : List ℕ) (at : Option NewPort) → leg_at name (option_map (new_port_renamed f.to) at) ≡ answer_renamed (leg_renamed f.to) (leg_at name at)
+  pub leg_at-renamed : (name : List ℕ) (at : Option NewPort) → leg_at name (option_map (new_port_renamed f.to) at) ≡ answer_renamed (leg_renamed f.to) (leg_at name at)
   leg_at-renamed name None = from_top-renamed name
   leg_at-renamed name (Some e) = refl
 
@@ -96,7 +96,7 @@ module _ (f : Renaming) where
     or_none (Ok o) = o
     or_none (Err e) = None
 
-    or_none-renamed : (r : Result (Option Name) Errno) → or_none (answer_renamed (option_map f.to) r) ≡ option_map f.to (or_none r)
+    pub or_none-renamed : (r : Result (Option Name) Errno) → or_none (answer_renamed (option_map f.to) r) ≡ option_map f.to (or_none r)
     or_none-renamed (Ok o) = refl
     or_none-renamed (Err e) = refl
 

@@ -4,7 +4,7 @@ use Rattle.std.specs.Option.{option_map}
 use Rattle.hurd_creds.specs.TransBits.{FORCE, ORPHAN, SET, asks_goaway, asks_trans}
 use Rattle.hurd_machine.proofs.Common.{EBUSY, EINVAL, ENXIO, EOPNOTSUPP, Meaning, Name, Named, World, active_at, has_words}
 use Rattle.hurd_machine.specs.declared.call.Setting.{Setting}
-use Rattle.hurd_machine.specs.Renamed.{Renaming, renamed, task_renamed}
+use Rattle.hurd_machine.specs.Renamed.{OtherNames, renamed, task_renamed}
 use Rattle.hurd_machine.proofs.RenamedHandles.{named_renamed, port_asks-renamed}
 use Rattle.hurd_machine.proofs.RenamedNodes.{active_at-renamed, is_some-mapped}
 use Rattle.hurd_machine.proofs.RenamedPlans.{answer_renamed, answered-given, answered-renamed, first-renamed, first-told, given-renamed}
@@ -16,28 +16,28 @@ use Rattle.hurd_names.proofs.AimsRenamed.{ResolvesRenamed, aims_asks-renamed}
 use Rattle.hurd_names.proofs.CoreRenamed.{naming_asks-renamed}
 use Rattle.hurd_names.proofs.FsysTold.{owned_asks-renamed}
 
-module _ (f : Renaming) (w : World) where
+module _ (f : OtherNames) (w : World) where
   -- file_get_translator
   pub get_translator_told : (t p : ℕ) → (plan_get_translator (renamed f w) t p).reply ≡ (plan_get_translator w t p).reply
   get_translator_told t p = answered-given _ _ (first-told (named_renamed f) _ _ _ (port_asks-renamed f w t p) (λ n. refl)) (λ words. refl)
 
   -- file_set_translator: whether it may be set
 
-  setter_asks-renamed : (t p : ℕ) (s : Setting) (brings : Bool) → setter_asks (renamed f w) t p s brings ≡ answer_renamed (named_renamed f) (setter_asks w t p s brings)
+  pub setter_asks-renamed : (t p : ℕ) (s : Setting) (brings : Bool) → setter_asks (renamed f w) t p s brings ≡ answer_renamed (named_renamed f) (setter_asks w t p s brings)
   setter_asks-renamed t p s brings = first-renamed (named_renamed f) (named_renamed f) _ _ _ (owned_asks-renamed f w t p) (λ n. given-renamed (named_renamed f) EINVAL _ refl refl)
 
-  may_seat-renamed : (n : Name) → may_seat (renamed f w) (f.to n) ≡ may_seat w n
+  pub may_seat-renamed : (n : Name) → may_seat (renamed f w) (f.to n) ≡ may_seat w n
   may_seat-renamed n = ap₂ (λ (tree root : Bool). tree && not root) (tree_at-renamed f w n) (is_server_root-renamed f w n)
 
-  may_replace-renamed : (s : Setting) (old : Option Name) → may_replace (renamed f w) s (option_map f.to old) ≡ may_replace w s old
+  pub may_replace-renamed : (s : Setting) (old : Option Name) → may_replace (renamed f w) s (option_map f.to old) ≡ may_replace w s old
   may_replace-renamed s None = refl
   may_replace-renamed s (Some q) = ap (λ count. not (asks_trans s.active SET) || (asks_trans s.active ORPHAN || (asks_goaway s.goaway FORCE || (count == 0)))) (users-renamed f w q)
 
-  may_set-renamed : (s : Setting) (stored : List (List ℕ)) (old : Option Name) → may_set (renamed f w) s stored (option_map f.to old) ≡ may_set w s stored old
+  pub may_set-renamed : (s : Setting) (stored : List (List ℕ)) (old : Option Name) → may_set (renamed f w) s stored (option_map f.to old) ≡ may_set w s stored old
   may_set-renamed s stored old =
       ap₂ (λ (there may : Bool). not (is_excluded s.passive (has_words stored)) && (not (is_excluded s.active there) && may)) (is_some-mapped f.to old) (may_replace-renamed s old)
 
-  seat_asks-renamed : (s : Setting) (n : Named) → seat_asks (renamed f w) s (named_renamed f n) ≡ answer_renamed (option_map f.to) (seat_asks w s n)
+  pub seat_asks-renamed : (s : Setting) (n : Named) → seat_asks (renamed f w) s (named_renamed f n) ≡ answer_renamed (option_map f.to) (seat_asks w s n)
   seat_asks-renamed s n =
       given-renamed (option_map f.to) EOPNOTSUPP _ (may_seat-renamed n.right.node) (
       given-renamed (option_map f.to) EBUSY _
@@ -47,20 +47,20 @@ module _ (f : Renaming) (w : World) where
   -- and what is set, where paths lead to the same nodes
 
   module _ (resolves : ResolvesRenamed f w) where
-    box_aims-renamed : (n : Named) (box : Option Meaning) → box_aims (renamed f w) (named_renamed f n) box ≡ answer_renamed (map f.to) (box_aims w n box)
+    pub box_aims-renamed : (n : Named) (box : Option Meaning) → box_aims (renamed f w) (named_renamed f n) box ≡ answer_renamed (map f.to) (box_aims w n box)
     box_aims-renamed n None = refl
     box_aims-renamed n (Some m) = aims_asks-renamed f w resolves ENXIO (lent n.right.ids n.header.owner) m
 
     module _ (t : ℕ) (none : f.more t ≡ 0) (s : Setting) (words : List (List ℕ)) where
-      seated_told : (n : Named) (box : Option Meaning) (old : Option Name) (targets : List Name)
+      pub seated_told : (n : Named) (box : Option Meaning) (old : Option Name) (targets : List Name)
           → (seated (renamed f w) t (named_renamed f n) s words box (option_map f.to old) (map f.to targets)).reply ≡ (seated w t n s words box old targets).reply
       seated_told n None old targets = refl
       seated_told n (Some m) old targets = answered-renamed (task_renamed f.to 0) _ _ _ (naming_asks-renamed f w t none 2) (λ x. refl)
 
-      seating_told : (n : Named) (box : Option Meaning) (old : Option Name) → (seating (renamed f w) t (named_renamed f n) s words box (option_map f.to old)).reply ≡ (seating w t n s words box old).reply
+      pub seating_told : (n : Named) (box : Option Meaning) (old : Option Name) → (seating (renamed f w) t (named_renamed f n) s words box (option_map f.to old)).reply ≡ (seating w t n s words box old).reply
       seating_told n box old = answered-renamed (map f.to) _ _ _ (box_aims-renamed n box) (seated_told n box old)
 
-      setting_where_told : (nothing : Bool) (n : Named) (box : Option Meaning) → (setting_where nothing (renamed f w) t s words box (named_renamed f n)).reply ≡ (setting_where nothing w t s words box n).reply
+      pub setting_where_told : (nothing : Bool) (n : Named) (box : Option Meaning) → (setting_where nothing (renamed f w) t s words box (named_renamed f n)).reply ≡ (setting_where nothing w t s words box n).reply
       setting_where_told true n box = refl
       setting_where_told false n box = answered-renamed (option_map f.to) _ _ _ (seat_asks-renamed s n) (seating_told n box)
 

@@ -5,14 +5,14 @@ use Rattle.std.specs.Option.{option_map}
 use Rattle.hurd_creds.specs.Access.{IdSets, may}
 use Rattle.hurd_ports.specs.declared.parents.Parent.{Parent}
 use Rattle.hurd_machine.proofs.Common.{Exec, Header, Name, ServerInfo, World, active_at, bare, body_at, entry_of, header_at, is_dir, node_at, passive_of, server_at}
-use Rattle.hurd_machine.specs.Renamed.{Renaming, header_renamed, info_renamed, renamed}
+use Rattle.hurd_machine.specs.Renamed.{OtherNames, header_renamed, info_renamed, renamed}
 use Rattle.hurd_machine.proofs.RenamedMaps.{same_name-renamed}
 use Rattle.hurd_machine.proofs.RenamedNodes.{active_at-renamed, entry_at-renamed, header_at-renamed, is_some-mapped, node_at-renamed, passive_of-renamed}
 use Rattle.hurd_machine.proofs.RenamedServers.{server_at-renamed}
 use Rattle.hurd_lookup.specs.Lookup.{Active, Waiting, came_in_at, crossed_at, root_on, shows_name, ways_into}
 use Rattle.hurd_names.proofs.LookupRenamed.{crossed_renamed, ways_renamed}
 
-module _ (f : Renaming) where
+module _ (f : OtherNames) where
   -- ways
 
   pub came_in_at-renamed : (ways : List Parent) (d : Name) → came_in_at (ways_renamed f.to ways) (f.to d) ≡ came_in_at ways d
@@ -47,11 +47,11 @@ module _ (f : Renaming) where
     abbrev root_in : World → Option Name → Option Name
     root_in x o = option_and_then (λ s. option_map (λ (i : ServerInfo). i.root) (server_at x s)) o
 
-    root_in-renamed : (o : Option Name) → root_in (renamed f w) (option_map f.to o) ≡ option_map f.to (root_in w o)
+    pub root_in-renamed : (o : Option Name) → root_in (renamed f w) (option_map f.to o) ≡ option_map f.to (root_in w o)
     root_in-renamed None = refl
     root_in-renamed (Some s) = ap (option_map (λ (i : ServerInfo). i.root)) (server_at-renamed f w s) ∙ root_of_server (server_at w s)
 
-    root_on-renamed : (n : Name) → root_on (renamed f w) (f.to n) ≡ option_map f.to (root_on w n)
+    pub root_on-renamed : (n : Name) → root_on (renamed f w) (f.to n) ≡ option_map f.to (root_on w n)
     root_on-renamed n = ap (root_in (renamed f w)) (active_at-renamed f w n) ∙ root_in-renamed (active_at w n)
 
     has_active : (n : Name) → is_some (active_at (renamed f w) (f.to n)) ≡ is_some (active_at w n)

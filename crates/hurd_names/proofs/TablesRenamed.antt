@@ -6,13 +6,13 @@ use Rattle.hurd_ports.specs.declared.table.Port.{Port}
 use Rattle.hurd_ports.specs.Tables.{nodes_of as nodes_named}
 use Rattle.hurd_machine.proofs.Common.{AreTables, CanBeAt, CanBeWritten, IoRight, IsAmong, Name, Opened, Right, Task, World, open_at, task_at}
 use Rattle.hurd_machine.specs.World.{nodes_of}
-use Rattle.hurd_machine.specs.Renamed.{Renaming, open_renamed, port_renamed, renamed, task_renamed}
+use Rattle.hurd_machine.specs.Renamed.{OtherNames, open_renamed, port_renamed, renamed, task_renamed}
 use Rattle.hurd_machine.proofs.RenamedServers.{open_at-renamed}
 use Rattle.hurd_machine.proofs.RenamedTasks.{nodes_of-renamed, task_at-renamed}
 use Rattle.hurd_names.proofs.FoundRenamed.{of_among, of_ios, of_mapped, of_rights}
 use Rattle.hurd_names.proofs.HousedRenamed.{can_be-renamed, can_write-renamed}
 
-module _ (f : Renaming) (w : World) where
+module _ (f : OtherNames) (w : World) where
   abbrev other : World
   other = renamed f w
 

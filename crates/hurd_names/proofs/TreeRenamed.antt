@@ -7,14 +7,14 @@ use Rattle.hurd_nodes.specs.Shown.{is_root}
 use Rattle.hurd_machine.proofs.Common.{Above, AreDistinct, AtRoot, Body, Content, Hangs, HasDistinctNames, Header, IsShaped, LeadsUp, Linked, Listing, Name, Node, World, body_at, boot_root, count_list, header_at, home_in, is_dir, is_of, lists_at, one_if, server_of, times_in, times_listed, tree_by}
 use Rattle.hurd_machine.specs.Sound.{IsTree}
 use Rattle.hurd_machine.specs.World.{nodes_of}
-use Rattle.hurd_machine.specs.Renamed.{Renaming, body_renamed, entry_renamed, header_renamed, node_renamed, renamed}
+use Rattle.hurd_machine.specs.Renamed.{OtherNames, body_renamed, entry_renamed, header_renamed, node_renamed, renamed}
 use Rattle.hurd_machine.proofs.RenamedMaps.{same_name-renamed, total-renamed}
 use Rattle.hurd_machine.proofs.RenamedNodes.{body_at-renamed, entry_in-renamed, home_at-renamed, lists_at-renamed}
 use Rattle.hurd_machine.proofs.RenamedServers.{is_server_root-renamed, tree_at-renamed}
 use Rattle.hurd_names.proofs.FoundRenamed.{of_entries, of_found, of_headers, of_mapped}
 use Rattle.hurd_names.proofs.HousedRenamed.{at_header, header_there, home_there}
 
-module _ (f : Renaming) where
+module _ (f : OtherNames) where
   shaped : (h : Header) (b : Body) → IsShaped h b → IsShaped (header_renamed f.to h) (body_renamed f.to b)
   shaped h (Content bs) is = is
   shaped h (Listing es) is = is
@@ -33,7 +33,7 @@ module _ (f : Renaming) where
   entries_in n [] = refl
   entries_in n (e ∷ es) = ap₂ ◌+◌ (ap one_if (same_name-renamed f e.node n)) (entries_in n es)
 
-  times_in-renamed : (n : Name) (b : Body) → times_in (f.to n) (body_renamed f.to b) ≡ times_in n b
+  pub times_in-renamed : (n : Name) (b : Body) → times_in (f.to n) (body_renamed f.to b) ≡ times_in n b
   times_in-renamed n (Content bs) = refl
   times_in-renamed n (Listing es) = entries_in n es
 

@@ -3,7 +3,7 @@ use Rattle.std.proofs.Common.{◌≡◌, ℕ}
 use Rattle.hurd_machine.specs.Calls.{Call, box_in}
 use Rattle.hurd_machine.specs.declared.call.Call.TheVariants.{PortDeallocate, PortSend, PortReceive, AuthMakeauth, DirLookup, IoRead, IoWrite, IoSeek, IoStat, IoReadable, IoGetOpenmodes, IoSetAllOpenmodes, IoDuplicate, IoReauthenticate, IoRestrictAuth, IoIdentity, FileSetSize, FileChmod, FileChown, FileCheckAccess, FileSetTranslator, FileGetTranslator, FileGetTranslatorCntl, FileGetcontrol, FsysStartup, StartFailed, FsysGetroot, FsysGoaway, FsysGetOptions, FsysSetOptions, DirReaddir, DirMkdir, DirRmdir, DirUnlink, DirLink, DirMkfile, DirRename}
 use Rattle.hurd_machine.specs.World.{World}
-use Rattle.hurd_machine.specs.Renamed.{Renaming, renamed}
+use Rattle.hurd_machine.specs.Renamed.{OtherNames, renamed}
 use Rattle.hurd_machine.proofs.RenamedPlans.{returning-renamed}
 use Rattle.hurd_laws.specs.Step.{row}
 use Rattle.hurd_names.specs.Untold.{NamesUntold}
@@ -20,8 +20,8 @@ use Rattle.hurd_names.proofs.SettingTold.{get_translator_told, set_translator_to
 use Rattle.hurd_names.proofs.StartingTold.{start_failed_told, startup_told}
 use Rattle.hurd_names.proofs.ResolveRenamed.{resolve_all-renamed}
 
-module _ (f : Renaming) (w : World) (t : ℕ) (none : f.more t ≡ 0) where
-  row_told : (c : Call) → (row (renamed f w) t c).reply ≡ (row w t c).reply
+module _ (f : OtherNames) (w : World) (t : ℕ) (none : f.more t ≡ 0) where
+  pub row_told : (c : Call) → (row (renamed f w) t c).reply ≡ (row w t c).reply
   row_told (PortDeallocate p) = deallocate_told f w t p
   row_told (PortSend p q) = send_told f w t p q.0
   row_told PortReceive = receive_told f w t none

@@ -12,7 +12,7 @@ use Rattle.hurd_ports.specs.declared.parents.Parent.{Parent}
 use Rattle.hurd_machine.proofs.Common.{Crossing, EACCES, EDIED, EEXIST, ENAMETOOLONG, ENOENT, ENOTDIR, Errno, Firm, Header, Name, Plain, ServerInfo, World, asks, body_at, entry_of}
 use Rattle.hurd_machine.specs.declared.call.RetryKind.TheVariants.{Reauth}
 use Rattle.hurd_machine.specs.Plan.{first}
-use Rattle.hurd_machine.specs.Renamed.{Renaming, header_renamed, info_renamed, renamed, way_renamed}
+use Rattle.hurd_machine.specs.Renamed.{OtherNames, header_renamed, info_renamed, renamed, way_renamed}
 use Rattle.hurd_machine.proofs.RenamedHandles.{on_header-renamed}
 use Rattle.hurd_machine.proofs.RenamedNodes.{entry_at-renamed, header_at-renamed}
 use Rattle.hurd_machine.proofs.RenamedPlans.{answer_renamed, first-renamed, given-renamed, on-renamed}
@@ -25,14 +25,14 @@ use Rattle.hurd_names.proofs.CoreRenamed.{branches_at-renamed}
 use Rattle.hurd_names.proofs.Leading.{Leads, leads_either, leads_given, leads_if, leads_on}
 use Rattle.hurd_names.proofs.StepsRenamed.{came_in_at-renamed, crossed_at-renamed, shows_name-renamed, ways_into-renamed}
 
-module _ (f : Renaming) where
+module _ (f : OtherNames) where
   -- a target
-  got-renamed : (ns : List Name) → slice_get (map f.to ns) 0 ≡ option_map f.to (slice_get ns 0)
+  pub got-renamed : (ns : List Name) → slice_get (map f.to ns) 0 ≡ option_map f.to (slice_get ns 0)
   got-renamed [] = refl
   got-renamed (n ∷ ns) = refl
 
   -- a port has as many ways
-  short-renamed : (way : Parent) (ways : List Parent) → nat_le (length (way_renamed f.to way ∷ ways_renamed f.to ways)) most_parents ≡ nat_le (length (way ∷ ways)) most_parents
+  pub short-renamed : (way : Parent) (ways : List Parent) → nat_le (length (way_renamed f.to way ∷ ways_renamed f.to ways)) most_parents ≡ nat_le (length (way ∷ ways)) most_parents
   short-renamed way ways = ap (λ k. nat_le (suc k) most_parents) (length-map ways (way_renamed f.to))
 
   -- by what it goes, and what is asked for
@@ -46,26 +46,26 @@ module _ (f : Renaming) where
     IsPlace place other = other ≡ answer_renamed (place_renamed f.to) place
 
     -- back
-    go_back-renamed : (names : List (List ℕ)) (ways : List Parent) → IsPlace (go_back w r names ways) (go_back (renamed f w) r names (ways_renamed f.to ways))
+    pub go_back-renamed : (names : List (List ℕ)) (ways : List Parent) → IsPlace (go_back w r names ways) (go_back (renamed f w) r names (ways_renamed f.to ways))
     go_back-renamed names [] = refl
     go_back-renamed names (way ∷ ways) = on_header-renamed f w (place_renamed f.to) EDIED way.parent _ _ (λ h. refl)
 
     -- across the root of a server
 
-    enter-renamed : (d root : Name) (names : List (List ℕ)) → IsPlace (enter q r d root names) (enter alias r (f.to d) (f.to root) names)
+    pub enter-renamed : (d root : Name) (names : List (List ℕ)) → IsPlace (enter q r d root names) (enter alias r (f.to d) (f.to root) names)
     enter-renamed d root [] = given-renamed (place_renamed f.to) ELOOP _ (short-renamed (record { at = root; parent = d }) q.ways) refl
     enter-renamed d root (name ∷ names) = given-renamed (place_renamed f.to) ELOOP _ (short-renamed (record { at = root; parent = d }) q.ways) refl
 
-    follow-renamed : (absolute : Bool) (d : Name) (text : List ℕ) (names : List (List ℕ)) → IsPlace (follow absolute q r d text names) (follow absolute alias r (f.to d) text names)
+    pub follow-renamed : (absolute : Bool) (d : Name) (text : List ℕ) (names : List (List ℕ)) → IsPlace (follow absolute q r d text names) (follow absolute alias r (f.to d) text names)
     follow-renamed true d text names = given-renamed (place_renamed f.to) ENAMETOOLONG _ refl refl
     follow-renamed false d text names = given-renamed (place_renamed f.to) ENAMETOOLONG _ refl refl
 
-    hold_on-renamed : (d : Name) (o : Option Name) (names : List (List ℕ)) → IsPlace (hold_on w q r d o names) (hold_on (renamed f w) alias r (f.to d) (option_map f.to o) names)
+    pub hold_on-renamed : (d : Name) (o : Option Name) (names : List (List ℕ)) → IsPlace (hold_on w q r d o names) (hold_on (renamed f w) alias r (f.to d) (option_map f.to o) names)
     hold_on-renamed d None names = refl
     hold_on-renamed d (Some n) names =
         on_header-renamed f w (place_renamed f.to) EDIED n _ _ (λ h. given-renamed (place_renamed f.to) ELOOP _ (short-renamed (record { at = n; parent = d }) q.ways) refl)
 
-    crossing-renamed : (c : Crossing) (d root : Name) (i : ServerInfo) (names : List (List ℕ))
+    pub crossing-renamed : (c : Crossing) (d root : Name) (i : ServerInfo) (names : List (List ℕ))
         → IsPlace (crossing w c q r d root i names) (crossing (renamed f w) c alias r (f.to d) (f.to root) (info_renamed f.to i) names)
     crossing-renamed Plain d root i names = enter-renamed d root names
     crossing-renamed (Link absolute) d root i names = go (is_last names && asks r.flags NOLINK)
@@ -76,7 +76,7 @@ module _ (f : Renaming) where
     crossing-renamed Firm d root i names = ap (λ o. hold_on (renamed f w) alias r (f.to d) o names) (got-renamed i.targets) ∙ hold_on-renamed d (slice_get i.targets 0) names
     crossing-renamed Union d root i names = enter-renamed d root names
 
-    root_asks-renamed : (root : Name) → root_asks (renamed f w) (f.to root) ≡ answer_renamed (info_renamed f.to) (root_asks w root)
+    pub root_asks-renamed : (root : Name) → root_asks (renamed f w) (f.to root) ≡ answer_renamed (info_renamed f.to) (root_asks w root)
     root_asks-renamed root = on_header-renamed f w (info_renamed f.to) EDIED root _ _ (λ h. on-renamed (info_renamed f.to) (info_renamed f.to) EDIED _ _ _ (info_at-renamed f w root) (λ i. refl))
 
     pub cross-renamed : (d root : Name) (names : List (List ℕ)) → IsPlace (cross w q r d root names) (cross (renamed f w) alias r (f.to d) (f.to root) names)
@@ -85,18 +85,18 @@ module _ (f : Renaming) where
 
     -- at an entry's node, on or across
 
-    to_cross-renamed : (n : Name) (names : List (List ℕ)) → to_cross (renamed f w) r (f.to n) names ≡ option_map (crossed_renamed f.to) (to_cross w r n names)
+    pub to_cross-renamed : (n : Name) (names : List (List ℕ)) → to_cross (renamed f w) r (f.to n) names ≡ option_map (crossed_renamed f.to) (to_cross w r n names)
     to_cross-renamed n names = go (is_last names && asks r.flags NOTRANS)
       where
         go : (b : Bool) → (if b then None else crossed_at (renamed f w) (f.to n)) ≡ option_map (crossed_renamed f.to) (if b then None else crossed_at w n)
         go true = refl
         go false = crossed_at-renamed f w n
 
-    across-renamed : (d n : Name) (c : Crossed) (names : List (List ℕ)) → IsPlace (across w q r d n c names) (across (renamed f w) alias r (f.to d) (f.to n) (crossed_renamed f.to c) names)
+    pub across-renamed : (d n : Name) (c : Crossed) (names : List (List ℕ)) → IsPlace (across w q r d n c names) (across (renamed f w) alias r (f.to d) (f.to n) (crossed_renamed f.to c) names)
     across-renamed d n (Active root) names = cross-renamed d root names
     across-renamed d n (Waiting words) names = refl
 
-    over-renamed : (d n : Name) (o : Option Crossed) (names : List (List ℕ)) (j k : Result Place Errno) → IsPlace j k
+    pub over-renamed : (d n : Name) (o : Option Crossed) (names : List (List ℕ)) (j k : Result Place Errno) → IsPlace j k
         → IsPlace (over w q r d n o names j) (over (renamed f w) alias r (f.to d) (f.to n) (option_map (crossed_renamed f.to) o) names k)
     over-renamed d n None names j k alike = alike
     over-renamed d n (Some c) names j k alike = given-renamed (place_renamed f.to) EEXIST _ refl (across-renamed d n c names)

@@ -1,1 +1,2 @@
 pub mod Untold
+pub mod Served

@@ -3,7 +3,7 @@ use Rattle.std.specs.Prelude.{◌≡◌, ◌≤◌, ◌+◌, ℕ, Bool, true, Li
 use Rattle.hurd_creds.specs.declared.name.Name.{Name}
 use Rattle.hurd_machine.specs.Calls.{Call}
 use Rattle.hurd_machine.specs.World.{World}
-use Rattle.hurd_machine.specs.Renamed.{Renaming, renamed}
+use Rattle.hurd_machine.specs.Renamed.{OtherNames, renamed}
 use Rattle.hurd_machine.specs.Sight.{SameView}
 use Rattle.hurd_machine.specs.Sound.{AreGiven, Sound}
 use Rattle.hurd_laws.specs.Runs.{TaskCall, calls_of, replies_to, worlds_of}
@@ -11,21 +11,21 @@ use Rattle.hurd_laws.specs.Step.{reply_of}
 
 -- a call is told the same where all things have other names, and other tasks have made more
 abbrev pub NamesUntold : Type 0
-NamesUntold = (f : Renaming) (w : World) (t : ℕ) (c : Call) → f.more t ≡ 0 → reply_of (renamed f w) t c ≡ reply_of w t c
+NamesUntold = (f : OtherNames) (w : World) (t : ℕ) (c : Call) → f.more t ≡ 0 → reply_of (renamed f w) t c ≡ reply_of w t c
 
 -- with its other names too, all that stands was made by its task: each name's count is below what the task has made
-abbrev pub KeepsGiven : Renaming → World → Type 0
+abbrev pub KeepsGiven : OtherNames → World → Type 0
 KeepsGiven f w = AreGiven (renamed f w)
 
 -- a sound world is sound with other names, if with those too all that stands was made
 abbrev pub RenamedSound : Type 0
-RenamedSound = (f : Renaming) (w : World) → KeepsGiven f w → Sound w → Sound (renamed f w)
+RenamedSound = (f : OtherNames) (w : World) → KeepsGiven f w → Sound w → Sound (renamed f w)
 
 -- two worlds look the same to S but for names: each gets other names of things, with which all that stands was made too, and of which S has made no more; then they
 -- have one view
 pub record SameViewRenamed (S : ℕ → Bool) (v w : World) : Type 0 where
-  pub left : Renaming
-  pub right : Renaming
+  pub left : OtherNames
+  pub right : OtherNames
   pub ours : (t : ℕ) → S t ≡ true → (left.more t ≡ 0) × (right.more t ≡ 0)
   pub given : KeepsGiven left v × KeepsGiven right w
   pub same : SameView S (renamed left v) (renamed right w)
@@ -44,10 +44,10 @@ SideBySideRenamed =
     → replies_to S v ms ≡ replies_to S w ns
 
 -- names stay with their tasks, and no count rises by more than the task has made more
-pub record RaisesCounts (f : Renaming) : Type 0 where
+pub record RaisesCounts (f : OtherNames) : Type 0 where
   pub task : (n : Name) → (f.to n).task.0 ≡ n.task.0
   pub count : (n : Name) → (f.to n).count ≤ n.count + f.more n.task.0
 
 -- a sound world, and the same with names raised where others have made more, look the same to S but for names
 abbrev pub RaisedLooksSame : Type 0
-RaisedLooksSame = (S : ℕ → Bool) (f : Renaming) (w : World) → ((t : ℕ) → S t ≡ true → f.more t ≡ 0) → RaisesCounts f → Sound w → SameViewRenamed S w (renamed f w)
+RaisedLooksSame = (S : ℕ → Bool) (f : OtherNames) (w : World) → ((t : ℕ) → S t ≡ true → f.more t ≡ 0) → RaisesCounts f → Sound w → SameViewRenamed S w (renamed f w)

@@ -226,13 +226,6 @@ impl Ports {
         self.book.names_server(server)
     }
 
-    /// Each open is held by a right.
-    pub fn opens_are_held(&self)
-        ensures { IsSettled self.now.state }
-    {
-        let _ = &self.opens;
-    }
-
     /// Whether a task can have one more port, and name so many more things.
     ///
     /// Errors, in order: `ESRCH` no such task, `EOVERFLOW`.

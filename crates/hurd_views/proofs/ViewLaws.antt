@@ -37,7 +37,7 @@ use Rattle.hurd_sight.proofs.PartLaws.{parts_are_seen}
 use Rattle.hurd_views.proofs.RowLaws.{row_told}
 
 -- under each name of a view, what is seen of it is kept
-row_there : {tasks : List TaskId} {w : World} {a : View} → Views tasks w a → (n : Name) → row_at a.rows n ≡ row_of w a.sight n
+pub row_there : {tasks : List TaskId} {w : World} {a : View} → Views tasks w a → (n : Name) → row_at a.rows n ≡ row_of w a.sight n
 row_there views n = ap (λ (es : List (Name × Row)). row_at es n) views.rows ∙ row_told views.looks n
 
 -- values that are told where tests hold
@@ -158,13 +158,13 @@ face_told i j e =
     let targets : i.targets ≡ j.targets = ap (λ (r : ServerRow). r.targets) e in
     info_from kind text root ids targets
 
-faces_told : (o p : Option ServerInfo) → option_map server_row o ≡ option_map server_row p → face_in o ≡ face_in p
+pub faces_told : (o p : Option ServerInfo) → option_map server_row o ≡ option_map server_row p → face_in o ≡ face_in p
 faces_told None None e = refl
 faces_told None (Some j) e = absurd (cc)
 faces_told (Some i) None e = absurd (cc)
 faces_told (Some i) (Some j) e = ap Some (face_told i j (let same : Some (server_row i) ≡ Some (server_row j) = e in cc))
 
-texts_told : (o p : Option ServerInfo) → option_map text_row o ≡ option_map text_row p → text_in o ≡ text_in p
+pub texts_told : (o p : Option ServerInfo) → option_map text_row o ≡ option_map text_row p → text_in o ≡ text_in p
 texts_told None None e = refl
 texts_told None (Some j) e = absurd (cc)
 texts_told (Some i) None e = absurd (cc)
@@ -200,15 +200,15 @@ row_from h i j k l m n o p = rw (h, i, j, k, l, m, n, o, p) refl
 
 -- where the total of a server is seen, it is there
 
-abbrev sum_at : World → Name → ℕ
+abbrev pub sum_at : World → Name → ℕ
 sum_at w s = total_in (nodes_in w.nodes w.sites s)
 
-total_there : (S : ℕ → Bool) (w : World) (s : Name) → SeesTotal S w s → total_at w s ≡ Some (sum_at w s)
+pub total_there : (S : ℕ → Bool) (w : World) (s : Name) → SeesTotal S w s → total_at w s ≡ Some (sum_at w s)
 total_there S w s t = ap (λ (b : Bool). total_if b (sum_at w s)) (ap tree_by t.is_server ∙ t.tree)
 
 -- tasks of a list
 
-seat_told : (v w : World) (tasks : List TaskId) (t : ℕ) → map (λ (x : TaskId). task_at v x.0) tasks ≡ map (λ (x : TaskId). task_at w x.0) tasks → among tasks t ≡ true → task_at v t ≡ task_at w t
+pub seat_told : (v w : World) (tasks : List TaskId) (t : ℕ) → map (λ (x : TaskId). task_at v x.0) tasks ≡ map (λ (x : TaskId). task_at w x.0) tasks → among tasks t ≡ true → task_at v t ≡ task_at w t
 seat_told v w [] t e none = absurd (true≢false (sym none))
 seat_told v w (x ∷ xs) t e is = elim (or_cases (nat_eq x.0 t) (among xs t) is) [
   | inl here ↦ subst (λ (n : ℕ). task_at v n ≡ task_at w n) ((unsigned_Decides x.0 t).0 here) first
@@ -227,6 +227,25 @@ seats_same v w (x ∷ xs) same =
     ap (λ (o : Option Task). o ∷ map (λ (y : TaskId). task_at v y.0) xs) (same x.0 (or_left (nat_eq x.0 x.0) (among xs x.0) ((unsigned_Decides x.0 x.0).1 refl)))
     ∙ ap (λ (os : List (Option Task)). task_at w x.0 ∷ os) (seats_same v w xs (λ t is. same t (or_right (nat_eq x.0 t) (among xs t) is)))
 
+-- what rows tell of a name in two worlds
+
+module _ (v w : World) (n : Name) where
+  header_told : node_row v n ≡ node_row w n → header_at v n ≡ header_at w n
+  header_told e =
+      sym (headers_back (fin.get v.nodes n))
+      ∙ (ap (λ (r : NodeRow). headers r.attrs r.words) e ∙ headers_back (fin.get w.nodes n))
+
+  pub attr_told : node_row v n ≡ node_row w n → AnAttr (header_at w n) (site_at w n) ≡ AnAttr (header_at v n) (site_at v n)
+  attr_told e =
+      let header : header_at v n ≡ header_at w n = header_told e in
+      let site : site_at v n ≡ site_at w n = site_by (site_at v n) (site_at w n) (ap (λ (r : NodeRow). r.home) e) (ap (λ (r : NodeRow). r.active) e) in
+      rw (header, site) refl
+
+  pub body_told : Sound v → Sound w → option_map body_row (body_at v n) ≡ option_map body_row (body_at w n) → body_at v n ≡ body_at w n
+  body_told sv sw e =
+      sym (bodies_back (fin.get v.nodes n) (sv.coherent.tree.distinct n))
+      ∙ (ap (option_map body_from) e ∙ bodies_back (fin.get w.nodes n) (sw.coherent.tree.distinct n))
+
 -- two worlds, and what some tasks see of each
 
 module _ (tasks : List TaskId) (v w : World) (a b : View) (sound_v : Sound v) (sound_w : Sound w) (in_v : Views tasks v a) (in_w : Views tasks w b) where
@@ -244,12 +263,6 @@ module _ (tasks : List TaskId) (v w : World) (a b : View) (sound_v : Sound v) (s
 
   says_w : (q : SeenPart) → (sees_w q ≡ true) ↔ Sees S w (part_of q)
   says_w q = parts_are_seen S w b.sight q in_w.looks
-
-  distinct_v : (n : Name) (x : Node) → fin.get v.nodes n ≡ Some x → HasDistinctNames x.body
-  distinct_v = sound_v.coherent.tree.distinct
-
-  distinct_w : (n : Name) (x : Node) → fin.get w.nodes n ≡ Some x → HasDistinctNames x.body
-  distinct_w = sound_w.coherent.tree.distinct
 
   -- rows that are the same tell the same
   module _ (same : SameRows a b) where
@@ -271,22 +284,6 @@ module _ (tasks : List TaskId) (v w : World) (a b : View) (sound_v : Sound v) (s
     sees_same : (q : SeenPart) → Sees S v (part_of q) ↔ Sees S w (part_of q)
     sees_same q = (λ s. (says_w q).0 (sym (test q) ∙ (says_v q).1 s), λ s. (says_v q).0 (test q ∙ (says_w q).1 s))
 
-    header_same : (n : Name) → node_row v n ≡ node_row w n → header_at v n ≡ header_at w n
-    header_same n e =
-        sym (headers_back (fin.get v.nodes n))
-        ∙ (ap (λ (r : NodeRow). headers r.attrs r.words) e ∙ headers_back (fin.get w.nodes n))
-
-    attr_same : (n : Name) → node_row v n ≡ node_row w n → AnAttr (header_at w n) (site_at w n) ≡ AnAttr (header_at v n) (site_at v n)
-    attr_same n e =
-        let header : header_at v n ≡ header_at w n = header_same n e in
-        let site : site_at v n ≡ site_at w n = site_by (site_at v n) (site_at w n) (ap (λ (r : NodeRow). r.home) e) (ap (λ (r : NodeRow). r.active) e) in
-        rw (header, site) refl
-
-    body_same : (n : Name) → option_map body_row (body_at v n) ≡ option_map body_row (body_at w n) → body_at v n ≡ body_at w n
-    body_same n e =
-        sym (bodies_back (fin.get v.nodes n) (distinct_v n))
-        ∙ (ap (option_map body_from) e ∙ bodies_back (fin.get w.nodes n) (distinct_w n))
-
     total_same : (n : Name) → sees_v (seen.Total n) ≡ true → total_at v n ≡ total_at w n
     total_same n on =
         total_there S v n ((says_v (seen.Total n)).0 on)
@@ -294,9 +291,9 @@ module _ (tasks : List TaskId) (v w : World) (a b : View) (sound_v : Sound v) (s
         ∙ sym (total_there S w n ((says_w (seen.Total n)).0 (sym (test (seen.Total n)) ∙ on))))
 
     value : (q : SeenPart) → sees_v q ≡ true → part w (part_of q) ≡ part v (part_of q)
-    value (seen.Attributes n) on = attr_same n (told_value _ _ _ _ (ap (λ (r : Row). r.attributes) (row n)) on)
+    value (seen.Attributes n) on = attr_told v w n (told_value _ _ _ _ (ap (λ (r : Row). r.attributes) (row n)) on)
     value (seen.Empty n) on = ap AnEmpty (sym (told_value _ _ _ _ (ap (λ (r : Row). r.empty) (row n)) on))
-    value (seen.Body n) on = ap ABody (sym (body_same n (told_value _ _ _ _ (ap (λ (r : Row). r.body) (row n)) on)))
+    value (seen.Body n) on = ap ABody (sym (body_told v w n sound_v sound_w (told_value _ _ _ _ (ap (λ (r : Row). r.body) (row n)) on)))
     value (seen.Ends n) on = ap AnEnds (sym (told_value _ _ _ _ (ap (λ (r : Row). r.ends) (row n)) on))
     value (seen.Open n) on = ap (λ (r : OpenRow). AnOpen r.opened r.holders) (sym (told_value _ _ _ _ (ap (λ (r : Row). r.opened) (row n)) on))
     value (seen.Options n) on = ap AnOptions (sym (faces_told _ _ (told_value _ _ _ _ (ap (λ (r : Row). r.server) (row n)) on)))

@@ -17,4 +17,5 @@ pub use hurd_laws::{
     side_by_side, stays_sound, view_settled,
 };
 pub use hurd_machine::{Call, Lookup, Reply, RetryKind, Whence};
+pub use hurd_names::{names_untold, raised_looks_same, renamed_sound, side_by_side_renamed};
 pub use world::World;

@@ -7,6 +7,7 @@ ghost use Rattle.hurd_machine.specs.Sound.{Sound};
 ghost use Rattle.hurd_laws.specs.Called.{Called};
 ghost use Rattle.hurd_laws.specs.Integrity.{KeepsIntegrity};
 ghost use Rattle.hurd_laws.specs.Served.{Served, ComparedRun, IsolatedRun, kept};
+ghost use Rattle.hurd_names.specs.Served.{ComparedByLooks};
 ghost use Rattle.hurd_laws.specs.Spared.{SparesAll};
 ghost use Rattle.hurd_world.specs.Held.{AllBegun, AllComeBack, ComesBack, made_by, world_of};
 ghost use Rattle.hurd_world.specs.Boot.{boot_of, first_world};
@@ -236,7 +237,7 @@ impl<S: Server> World<S> {
     ///
     /// What a set of tasks is told is what the written machine tells it in any sound world that it sees alike, where the
     /// calls of the others touch nothing that it sees; and wherever it makes each of its calls in a world that it sees as
-    /// here, whatever the others did before. What a set may change at none of its calls, and no call of the others touches, stays as
+    /// here, or as here but for internal names, whatever the others did before. What a set may change at none of its calls, and no call of the others touches, stays as
     /// it was, or goes unseen. A call that found no memory counts as not made.
     ///
     /// `ENOMEM`, with the list back and no call made, where there is no room for the replies.
@@ -252,6 +253,8 @@ impl<S: Server> World<S> {
             IfOk result (λ replies. Sound w → IsolatedRun w (map (made_by S.meaning) calls.items) (map (reply_by S.meaning) replies.items) x) }
         ensures compared { let w = world_of S.meaning self.old in
             IfOk result (λ replies. Sound w → ComparedRun w (map (made_by S.meaning) calls.items) (map (reply_by S.meaning) replies.items)) }
+        ensures looks { let w = world_of S.meaning self.old in
+            IfOk result (λ replies. Sound w → ComparedByLooks w (map (made_by S.meaning) calls.items) (map (reply_by S.meaning) replies.items)) }
         ensures spared { let w = world_of S.meaning self.old in let x = world_of S.meaning self.new in
             IfOk result (λ replies. Sound w → SparesAll w (kept (map (made_by S.meaning) calls.items) (map (reply_by S.meaning) replies.items)) x) }
         ensures back { IfOk result (λ replies. AllComeBack calls.items replies.items) }

@@ -2,6 +2,7 @@ use Rattle.std.proofs.Common.{◌≡◌, [], map, arith}
 use Rattle.std.proofs.lemmas.List.{nil_from_length}
 use Rattle.hurd_machine.proofs.Common.{into_iter_items, reply_by}
 use Rattle.hurd_laws.proofs.Served.{served_sound, served_compared, served_isolated, served_spared}
+use Rattle.hurd_names.proofs.Served.{served_by_looks}
 use Rattle.hurd_world.specs.Held.{world_of, made_by}
 use Rattle.hurd_world.proofs.RunLaws.{none_served, next_served, all_served, all_back, first_begun, rest_begun}
 use Rattle.hurd_world.proofs.world.World.run.Goals as goal
@@ -54,6 +55,11 @@ pub returns-clause-compared : goal.returns-clause-compared
 returns-clause-compared g c =
     let f = g.S.Server.meaning in
     served_compared (world_of f c.args.self.now) (map (made_by f) c.args.calls.items) (map (reply_by f) c.loop-task.replies.items) (world_of f c.loop-task.self) (returns-clause-exact g c)
+
+pub returns-clause-looks : goal.returns-clause-looks
+returns-clause-looks g c =
+    let f = g.S.Server.meaning in
+    served_by_looks (world_of f c.args.self.now) (map (made_by f) c.args.calls.items) (map (reply_by f) c.loop-task.replies.items) (world_of f c.loop-task.self) (returns-clause-exact g c)
 
 pub returns-clause-spared : goal.returns-clause-spared
 returns-clause-spared g c =
