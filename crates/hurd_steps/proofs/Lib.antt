@@ -1,0 +1,14 @@
+pub mod TaskChanges
+pub mod MapChanges
+pub mod Settled
+pub mod Changes
+pub mod Plans
+pub mod RightsLeft
+pub mod IoLeft
+pub mod MakingLeft
+pub mod DirsLeft
+pub mod LookupLeft
+pub mod SeatsLeft
+pub mod SettingLeft
+pub mod After
+pub mod OwnLooks
