@@ -81,13 +81,13 @@ told_in_turn make (c ∷ cs) ds w =
     ∙ ap₂ (λ (ps qs : List (List ℕ)). ps ++ qs) (sym (first_part make c cs w)) (ap later (sym (run_both (command_calls make c w) (script_calls make cs x) w))))
 
 -- what S is told, command by command
-abbrev told_to : (ℕ → Bool) → Maker → List CommandLine → World → List (List ℕ)
+abbrev pub told_to : (ℕ → Bool) → Maker → List CommandLine → World → List (List ℕ)
 told_to S make [] w = []
 told_to S make (c ∷ cs) w =
     if S c.task then command_part make c w ∷ told_to S make cs (run w (command_calls make c w))
     else told_to S make cs (run w (command_calls make c w))
 
-told_parts : (S : ℕ → Bool) (make : Maker) (cs : List CommandLine) (w : World) → parts_to S cs (parts_by make (dialogue cs w)) ≡ told_to S make cs w
+pub told_parts : (S : ℕ → Bool) (make : Maker) (cs : List CommandLine) (w : World) → parts_to S cs (parts_by make (dialogue cs w)) ≡ told_to S make cs w
 told_parts S make [] w = refl
 told_parts S make (c ∷ cs) w =
     ap (parts_to S (c ∷ cs)) (first_part make c cs w)

@@ -10,3 +10,4 @@ pub mod ReplyLaws
 pub mod OutputLaws
 pub mod IsolationLaws
 pub mod GivenLaws
+pub mod Looks

@@ -9,3 +9,4 @@ pub mod Session
 pub mod Faults
 pub mod Outputs
 pub mod Isolation
+pub mod Looks

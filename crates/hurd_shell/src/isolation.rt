@@ -1,5 +1,6 @@
-//! What a script tells a set of tasks does not depend on the others' commands.
+//! What a script tells a set of tasks does not depend on the others' commands, nor on internal names.
 ghost use Rattle.hurd_shell.specs.Isolation.{AsWithoutOthers, CommandsSideBySide, IsolatedByView, IsolatedCommands, IsolatedScripts, OnePartEach, OwnCommandFromView, ScriptsSideBySide, ToldInTurn};
+ghost use Rattle.hurd_shell.specs.Looks.{CommandsByLooks, OwnCommandFromLooks, ScriptsByLooks};
 
 /// A law: each command has one part in what is told, and what is told of commands behind others is what is told of them in the
 /// world after those.
@@ -27,6 +28,14 @@ pub fn unmoved_scripts_are_isolated()
 pub fn scripts_side_by_side()
     ensures commands { CommandsSideBySide }
     ensures scripts { ScriptsSideBySide }
+{}
+
+/// A law: the same where each of these commands is given in worlds that look the same but for internal names of what others made, which count
+/// what these made unseen; and what one command is told, and leaves, goes by such looks alone.
+pub fn scripts_side_by_side_renamed()
+    ensures command { OwnCommandFromLooks }
+    ensures commands { CommandsByLooks }
+    ensures scripts { ScriptsByLooks }
 {}
 
 /// A law: what a command of some tasks is told, and what they see behind it, depends on what they see before it alone. So where two scripts
