@@ -1,0 +1,7 @@
+pub mod MeetLaws
+pub mod PairLaws
+pub mod SplitLaws
+pub mod Lives
+pub mod LookLaws
+pub mod RowsRenamed
+pub mod AlikeLaws
