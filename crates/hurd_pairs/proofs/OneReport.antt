@@ -1,12 +1,18 @@
 -- Of two scripts one report is printed.
-use Rattle.std.proofs.Common.{◌≡◌, ◌∙◌, inl, inr, refl, sym, ap, subst, ℕ, List, [], ◌∷◌, ◌++◌, Option, Some, None}
+use Rattle.std.specs.Option.{option_map}
+use Rattle.std.proofs.Common.{◌≡◌, ◌∙◌, map, inl, inr, refl, sym, ap, subst, ℕ, List, [], ◌∷◌, ◌++◌, Option, Some, None}
 use Rattle.hurd_creds.specs.declared.name.TaskId.{TaskId}
-use Rattle.hurd_machine.specs.Sight.{SameView}
 use Rattle.hurd_sight.specs.Reach.{among}
 use Rattle.hurd_run.specs.Scripts.{scripts}
 use Rattle.hurd_lessons.proofs.OneLesson.{taught_is_one}
 use Rattle.hurd_teaching.proofs.OneText.{alike}
-use Rattle.hurd_pairs.specs.Differences.{Compares, FirstSaid, IsSaid, SaysSeen, SaysTold}
+use Rattle.hurd_machine.specs.World.{World}
+use Rattle.hurd_views.specs.Views.{IsOneView}
+use Rattle.hurd_views.specs.declared.view.View.{View}
+use Rattle.hurd_views.proofs.OneView.{views_are_one}
+use Rattle.hurd_machine.specs.Renamed.{OtherNames, task_renamed}
+use Rattle.hurd_looks.specs.Renamed.{IsRenamed, listed, named_row_renamed}
+use Rattle.hurd_pairs.specs.Differences.{Compares, FirstSaid, IsSaid, SaysSeen, SaysTold, SeeAlike, SeeOther}
 use Rattle.hurd_pairs.specs.Moments.{FirstOther, Moment, TellOther, TellSame}
 use Rattle.hurd_pairs.specs.Reports.{are_of, lines_in, moments_of, seen_text, told_text, verdict_of}
 use Rattle.hurd_pairs.specs.Told.{ReportIsOne}
@@ -53,18 +59,31 @@ told_once m n d e x y =
     let said = x.said ∙ sym y.said in
     λ i. record { one = one i; two = two i; said = said i }
 
+-- views of the same two worlds are the same but for names, or they aren't
+
+one_renamed : (f : OtherNames) (a b c d : View) → IsOneView a c → IsOneView b d → IsRenamed f a b → IsRenamed f c d
+one_renamed f a b c d one other is = record {
+  rows = ap (λ rows. map (named_row_renamed f.to) (listed rows)) (sym one.rows) ∙ is.rows ∙ ap listed other.rows;
+  seats = ap (map (option_map (task_renamed f.to 0))) (sym one.seats) ∙ is.seats ∙ other.seats;
+  count = sym one.count ∙ is.count ∙ other.count;
+}
+
+not_both : (tasks : List TaskId) (v w : World) → SeeAlike tasks v w → SeeOther tasks v w → ⊥
+not_both tasks v w (a, b, in_a, in_b, alike) (c, d, in_c, in_d, other) =
+    other (alike.0, alike.1, one_renamed alike.0 a b c d (views_are_one tasks v a c in_a in_c) (views_are_one tasks w b d in_b in_d) alike.2)
+
 -- what is compared of the same tasks is one
-compared_once : (tasks : List TaskId) (sees : List ℕ) (ms ns : List Moment) (c e : Compared) → Compares (SameView (among tasks)) (λ v w. SameView (among tasks) v w → ⊥) tasks sees ms ns c
-    → Compares (SameView (among tasks)) (λ v w. SameView (among tasks) v w → ⊥) tasks sees ms ns e → c ≡ e
+compared_once : (tasks : List TaskId) (sees : List ℕ) (ms ns : List Moment) (c e : Compared) → Compares (SeeAlike tasks) (SeeOther tasks) tasks sees ms ns c
+    → Compares (SeeAlike tasks) (SeeOther tasks) tasks sees ms ns e → c ≡ e
 compared_once tasks sees ms ns c e x y =
-    let seen = both_once (SaysSeen tasks sees) (seen_once tasks sees) (λ m n. SameView (among tasks) m.world n.world) (λ m n. SameView (among tasks) m.world n.world → ⊥) (λ m n same other. other same) ms ns c.seen e.seen x.seen y.seen in
+    let seen = both_once (SaysSeen tasks sees) (seen_once tasks sees) (λ m n. SeeAlike tasks m.world n.world) (λ m n. SeeOther tasks m.world n.world) (λ m n. not_both tasks m.world n.world) ms ns c.seen e.seen x.seen y.seen in
     let told = both_once SaysTold told_once TellSame TellOther (λ m n same other. other same) ms ns c.told e.told x.told y.told in
     λ i. record { seen = seen i; told = told i }
 
 pub report_is_one : ReportIsOne
 report_is_one word one two v w s t x y =
     let same = alike _ _ _ _ x.learners y.learners x.these y.these in
-    let other : Compares (SameView (among x.learners.tasks.items)) (λ a b. SameView (among x.learners.tasks.items) a b → ⊥) x.learners.tasks.items x.learners.sees.items
+    let other : Compares (SeeAlike x.learners.tasks.items) (SeeOther x.learners.tasks.items) x.learners.tasks.items x.learners.sees.items
     (moments_of scripts (among x.learners.tasks.items) one) (moments_of scripts (among x.learners.tasks.items) two) y.compared = rw (same.tasks, same.sees) y.compares in
     let is = compared_once x.learners.tasks.items x.learners.sees.items (moments_of scripts (among x.learners.tasks.items) one) (moments_of scripts (among x.learners.tasks.items) two) x.compared y.compared x.compares other in
     let text : List TaskId → List ℕ → List ℕ → Compared → List ℕ = λ tasks sees names c. seen_text sees (lines_in scripts one) (lines_in scripts two) c.seen ++ told_text (names ++ are_of tasks) (lines_in scripts one) (lines_in scripts two) c.told in (

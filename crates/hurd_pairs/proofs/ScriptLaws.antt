@@ -54,23 +54,13 @@ module _ (word one two : List ℕ) (v w : Way) (learners : Learners) (first : Be
       let S = among tasks in
       let ms = begun_moments S one v first in
       let ns = begun_moments S two w second in
-      let (found, is, said) = report.compares.seen in
       record {
         learners = learners;
         these = these;
         pair = pair;
         compared = report.compared;
         compares = record {
-          seen = (
-            found,
-            said_otherwise (λ m n. SeeAlike tasks m.world n.world) (λ m n. SeeOther tasks m.world n.world) (λ (m : Moment). Sound m.world) (λ m n. SameView S m.world n.world)
-                (λ m n. SameView S m.world n.world → ⊥)
-                (λ m n sm sn (a, b, in_a, in_b, same). (rows_are_views tasks m.world n.world a b sm sn in_a in_b).0 same)
-                (λ m n sm sn (a, b, in_a, in_b, differ) view. differ ((rows_are_views tasks m.world n.world a b sm sn in_a in_b).1 view))
-                (moments_of scripts S one) (moments_of scripts S two) found (moments_sound S begin 0 (commands_of one) (scripts.world one) (script_sound one))
-                (moments_sound S begin 0 (commands_of two) (scripts.world two) (script_sound two)) (rw (ms, ns) at is),
-            said,
-          );
+          seen = rw (ms, ns) at report.compares.seen;
           told = rw (ms, ns) at report.compares.told;
         };
         judged = report.judged;

@@ -1,6 +1,5 @@
 -- Whoever is told something else saw something else before.
 use Rattle.std.proofs.Common.{◌≡◌, ◌≤◌, ◌∙◌, ◌+◌, inl, inr, refl, sym, ap, arith, ℕ, Bool, true, false, List, [], ◌∷◌, Option, Some, None}
-use Rattle.hurd_machine.specs.Sight.{SameView}
 use Rattle.hurd_machine.specs.Sound.{Sound}
 use Rattle.hurd_machine.specs.World.{World}
 use Rattle.hurd_creds.specs.declared.name.TaskId.{TaskId}
@@ -10,14 +9,16 @@ use Rattle.hurd_laws.specs.Runs.{run}
 use Rattle.hurd_laws.proofs.Together.{together}
 use Rattle.hurd_shell.specs.Isolation.{command_calls, command_part, commands_by}
 use Rattle.hurd_shell.specs.Transcript.{Maker, dialogue, told_by}
-use Rattle.hurd_shell.proofs.IsolationLaws.{first_told, none_told, own_command, part_at, run_sound}
+use Rattle.hurd_shell.proofs.IsolationLaws.{first_told, none_told, part_at, run_sound}
+use Rattle.hurd_shell.proofs.Looks.{own_command_looks}
+use Rattle.hurd_looks.proofs.AlikeLaws.{alike_looks}
 use Rattle.hurd_sight.specs.Reach.{among}
 use Rattle.hurd_tmpfs.specs.Tree.{new_tmpfs}
 use Rattle.hurd_tmpfs.proofs.Beginning.{begins_tree}
 use Rattle.hurd_trans_iface.specs.Meaning.{begin}
 use Rattle.hurd_world.proofs.FirstWorld.{first_sound}
 use Rattle.hurd_run.specs.Scripts.{scripts}
-use Rattle.hurd_pairs.specs.Differences.{IsSaid, SaysSeen, SaysTold}
+use Rattle.hurd_pairs.specs.Differences.{IsSaid, SaysSeen, SaysTold, SeeAlike, SeeOther}
 use Rattle.hurd_pairs.specs.Moments.{FirstOther, Moment, TellOther, TellSame, moments}
 use Rattle.hurd_pairs.specs.Told.{ToldBySeen}
 use Rattle.hurd_pairs.specs.declared.difference.Difference.{Difference}
@@ -66,12 +67,15 @@ not_before S j k w (p ∷ ps) behind = go (S p.task) refl (not_before S (j + 1) 
 abbrev SeenBy : Option (Moment × Moment) → Moment → Moment → Type 0
 SeenBy seen m n = (x y : Moment) × (seen ≡ Some (x, y)) × (x.made ≤ m.made) × (y.made ≤ n.made)
 
-module _ (S : ℕ → Bool) (make : Maker) where
+module _ (tasks : List TaskId) (make : Maker) where
+  abbrev S : ℕ → Bool
+  S = among tasks
+
   abbrev See : Moment → Moment → Type 0
-  See m n = SameView S m.world n.world
+  See m n = SeeAlike tasks m.world n.world
 
   abbrev SeeNot : Moment → Moment → Type 0
-  SeeNot m n = SameView S m.world n.world → ⊥
+  SeeNot m n = SeeOther tasks m.world n.world
 
   -- of two lists of commands from any two worlds: where something else is told first, something else is seen there or before
   abbrev Orders : List CommandLine → List CommandLine → Type 0
@@ -95,7 +99,9 @@ module _ (S : ℕ → Bool) (make : Maker) where
       let second = own_first S make l c ds w own in
       elim (opened See SeeNot _ _ _ _ seen (rw (first, second) at sees)) [
         | inl alike ↦
-            let now = own_command S make v w c sv sw own alike.0 in
+            let (a, b, in_a, in_b, same) = alike.0 in
+            let looks = alike_looks tasks v w a b sv sw in_a in_b same in
+            let now = own_command_looks S looks.0 make v w c sv sw own looks.1 in
             elim (opened TellSame TellOther _ _ _ _ (Some (m, n)) (rw (first, second) at tells)) [
               | inl same ↦ rest (k + 1) (l + 1) x y (run_sound (command_calls make c v) v sv) (run_sound (command_calls make c w) w sw) seen m n alike.1 same.1
               | inr other ↦ absurd (other.0 now.0)
@@ -142,12 +148,11 @@ found_seen tasks sees (Some (m, n)) (Some d) x y said is =
 pub told_by_seen : ToldBySeen
 told_by_seen word one two verdict text report told is =
     let tasks = report.learners.tasks.items in
-    let S = among tasks in
     let (seen_found, seen_first, seen_said) = report.compares.seen in
     let (told_found, told_first, told_said) = report.compares.told in
     let (m, n, at, first, second) = found_told told_found report.compared.told told told_said is in
     let (x, y, saw, sooner, later) =
-    ordered S begin (commands_of one) (commands_of two) report.pair.commands 0 0 (scripts.world one) (scripts.world two) (script_sound one) (script_sound two)
+    ordered tasks begin (commands_of one) (commands_of two) report.pair.commands 0 0 (scripts.world one) (scripts.world two) (script_sound one) (script_sound two)
     seen_found m n seen_first (rw at at told_first) in
     let (d, there, here, other) = found_seen tasks report.learners.sees.items seen_found report.compared.seen x y seen_said saw in
     (d, there, omega (arith, sooner, here, first), omega (arith, later, other, second))

@@ -3,19 +3,21 @@ use Rattle.std.specs.Prelude.{◌≡◌, ℕ, List, ◌++◌, Option, Some, None
 use Rattle.hurd_creds.specs.declared.name.TaskId.{TaskId}
 use Rattle.hurd_machine.specs.World.{World}
 use Rattle.hurd_sentences.specs.Marks.{marked}
-use Rattle.hurd_views.specs.Views.{SameRows, Views}
+use Rattle.hurd_sight.specs.Reach.{among}
+use Rattle.hurd_views.specs.Views.{Views}
 use Rattle.hurd_views.specs.declared.view.View.{View}
 use Rattle.hurd_lessons.specs.Told.{Taught}
+use Rattle.hurd_looks.specs.Renamed.{AreAlike}
 use Rattle.hurd_pairs.specs.Moments.{FirstOther, Moment, TellOther, TellSame}
 use Rattle.hurd_pairs.specs.declared.difference.Compared.{Compared}
 use Rattle.hurd_pairs.specs.declared.difference.Difference.{Difference}
 
--- nothing in these tasks' views of two worlds differs, or something does
+-- these tasks' views of two worlds are the same but for names of what others made, or they aren't
 abbrev pub SeeAlike : List TaskId → World → World → Type 0
-SeeAlike tasks v w = (a b : View) × Views tasks v a × Views tasks w b × SameRows a b
+SeeAlike tasks v w = (a b : View) × Views tasks v a × Views tasks w b × AreAlike (among tasks) a b
 
 abbrev pub SeeOther : List TaskId → World → World → Type 0
-SeeOther tasks v w = (a b : View) × Views tasks v a × Views tasks w b × (SameRows a b → ⊥)
+SeeOther tasks v w = (a b : View) × Views tasks v a × Views tasks w b × (AreAlike (among tasks) a b → ⊥)
 
 -- of two moments it is said what these tasks see otherwise at the one than at the other: as what they learn, from the first to the second
 pub record SaysSeen (tasks : List TaskId) (sees : List ℕ) (m n : Moment) (d : Difference) : Type 0 where

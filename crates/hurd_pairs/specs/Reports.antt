@@ -1,7 +1,6 @@
 -- What is printed of two scripts.
 use Rattle.std.specs.Prelude.{◌≡◌, ℕ, Bool, List, [], ◌++◌, Option, Some, None, Result, Ok, Err, codes, decimal, if◌then◌else◌, is_some, length, nat_lt, true, false}
 use Rattle.hurd_creds.specs.declared.name.TaskId.{TaskId}
-use Rattle.hurd_machine.specs.Sight.{SameView}
 use Rattle.hurd_sight.specs.Reach.{among}
 use Rattle.hurd_dialogue.specs.Sorts.{Sort}
 use Rattle.hurd_run.specs.Scripts.{scripts}
@@ -11,7 +10,7 @@ use Rattle.hurd_teaching.specs.declared.learners.Learners.{Learners}
 use Rattle.hurd_terminal.specs.Faults.{IsFront}
 use Rattle.hurd_terminal.specs.declared.fault.Fault.{Fault}
 use Rattle.hurd_terminal.specs.declared.fault.Fault.TheVariants.{Bad, Boot, Memory, Unknown, Write}
-use Rattle.hurd_pairs.specs.Differences.{Compares}
+use Rattle.hurd_pairs.specs.Differences.{Compares, SeeAlike, SeeOther}
 use Rattle.hurd_pairs.specs.Lines.{line_before}
 use Rattle.hurd_pairs.specs.Moments.{Moment, moments}
 use Rattle.hurd_pairs.specs.Pairs.{IsPair, Mismatches}
@@ -72,7 +71,7 @@ pub record Reports (word one two : List ℕ) (verdict : Verdict) (text : List �
   pub these : AreThese scripts word one learners
   pub pair : IsPair (among learners.tasks.items) one two
   pub compared : Compared
-  pub compares : Compares (SameView (among learners.tasks.items)) (λ v w. SameView (among learners.tasks.items) v w → ⊥) learners.tasks.items learners.sees.items
+  pub compares : Compares (SeeAlike learners.tasks.items) (SeeOther learners.tasks.items) learners.tasks.items learners.sees.items
       (moments_of scripts (among learners.tasks.items) one) (moments_of scripts (among learners.tasks.items) two) compared
   pub judged : verdict ≡ verdict_of compared.told
   pub is : text ≡ report_text learners (lines_in scripts one) (lines_in scripts two) compared

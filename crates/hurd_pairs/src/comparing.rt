@@ -11,13 +11,15 @@ use crate::own::reach_own;
 use hurd_creds::Bytes;
 use hurd_dialogue::Telling;
 use hurd_lessons::lessons;
+use hurd_looks::look_alike;
 use hurd_sentences::push_marked;
 use hurd_teaching::{Learners, view_of};
 use hurd_trans_iface::Server;
 use hurd_world::World;
 use std::alloc::{AllocError, Global};
 
-/// What some see otherwise of the second world than of the first, in lines; nothing where nothing differs. An error is want of memory.
+/// What some see otherwise of the second world than of the first, in lines; nothing where nothing differs but names of what others made. An error is want of
+/// memory.
 fn seen_otherwise<S: Server>(
     alloc: Global,
     one: &World<S>,
@@ -28,7 +30,7 @@ fn seen_otherwise<S: Server>(
 {
     let first = view_of(alloc, one, learners.tasks.as_slice())?;
     let second = view_of(alloc, two, learners.tasks.as_slice())?;
-    if first.is_same(&second) {
+    if look_alike(alloc, &first, &second, learners.tasks.as_slice())? {
         return Ok(None);
     }
     let said = lessons(alloc, learners.sees.as_slice(), &first, &second)?;
