@@ -1,5 +1,5 @@
 -- Why a line of a script is bad.
-use Rattle.std.specs.Prelude.{◌≡◌, ℕ, ◌-◌, ◌==◌, Bool, not, List, [], ◌∷◌, Option, Some, None, Result, Ok, Err, codes, get_or, if◌then◌else◌, is_none, length, nat_lt, take}
+use Rattle.std.specs.Prelude.{◌≡◌, ℕ, ◌-◌, not, List, [], ◌∷◌, Option, Some, None, Result, Ok, Err, codes, get_or, if◌then◌else◌, is_none, length, nat_lt, take}
 use Rattle.std.specs.List.{list_any}
 use Rattle.hurd_creds.specs.Access.{IdSets}
 use Rattle.hurd_creds.specs.Limits.{most_script, most_tasks}

@@ -1,5 +1,5 @@
 -- What the lines of a script have said so far.
-use Rattle.std.specs.Prelude.{refl, ◌≡◌, ℕ, ◌==◌, ◌||◌, ◌++◌, Bool, true, not, codes, option_and_then, List, [], ◌∷◌, Option, Some, None, if◌then◌else◌}
+use Rattle.std.specs.Prelude.{refl, ℕ, ◌==◌, ◌||◌, ◌++◌, Bool, true, not, codes, option_and_then, List, [], ◌∷◌, Option, Some, None, if◌then◌else◌}
 use Rattle.std.specs.Coded.{Coded, code_by, coded_bool, coded_list, coded_ℕ, coded×}
 use Rattle.std.specs.List.{slice_split}
 use Rattle.hurd_creds.specs.Access.{IdSets, coded_ids}

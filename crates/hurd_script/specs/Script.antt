@@ -1,5 +1,5 @@
 -- What a script says, and where it is bad.
-use Rattle.std.specs.Prelude.{◌≡◌, ℕ, ◌&&◌, ◌||◌, Bool, not, List, [], ◌∷◌, Option, Some, if◌then◌else◌, nat_lt, option_and_then, filter_map, length}
+use Rattle.std.specs.Prelude.{ℕ, ◌&&◌, ◌||◌, Bool, not, List, [], ◌∷◌, Option, Some, if◌then◌else◌, nat_lt, option_and_then, filter_map, length}
 use Rattle.std.specs.List.{list_any, position_from}
 use Rattle.std.specs.FinSet as set
 use Rattle.hurd_creds.specs.Access.{IdSets}

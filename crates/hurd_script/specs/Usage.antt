@@ -26,18 +26,6 @@ node_app name = with_rule (bare_app name) (operand (codes "node"))
 abbrev pub list_app : Text → App
 list_app name = with_rule (node_app name) (letter_flag (codes "itself") 100)
 
--- a command that takes the first of two words
-abbrev pub first_app : Text → App
-first_app name = with_rule (bare_app name) (operand (codes "first"))
-
--- a command that takes two words
-abbrev pub pair_app : Text → App
-pair_app name = with_rule (first_app name) (operand (codes "second"))
-
--- a command that takes three words
-abbrev pub triple_app : Text → App
-triple_app name = with_rule (pair_app name) (operand (codes "third"))
-
 -- clap finds no fault with these words, and reads them as these rows
 abbrev pub ReadsAs : App → List Text → List Row → Type 0
 ReadsAs app words rows = (fault_of app words ≡ []) × (rows ≡ matches_of app words)
@@ -72,15 +60,9 @@ abbrev pub Answer : {X : Type 0} → App → List Text → (List Row → X → T
 Answer app words Has None = fault_of app words ≢ []
 Answer app words Has (Some x) = (fault_of app words ≡ []) × Has (matches_of app words) x
 
--- the values of the operands
+-- the value of the operand
 abbrev pub HasNode : List Row → Text → Type 0
 HasNode rows node = first_of (codes "node") rows ≡ Some node
-
-abbrev pub HasPair : List Row → Text × Text → Type 0
-HasPair rows pair = (first_of (codes "first") rows ≡ Some pair.0) × (first_of (codes "second") rows ≡ Some pair.1)
-
-abbrev pub HasTriple : List Row → Text × (Text × Text) → Type 0
-HasTriple rows triple = HasPair rows (triple.0, triple.1.0) × (first_of (codes "third") rows ≡ Some triple.1.1)
 
 -- what a flag's row has
 abbrev pub flag_text : Bool → Text

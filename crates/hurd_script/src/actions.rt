@@ -41,7 +41,7 @@ fn words_from(alloc: Global, words: &[String]) -> Result<Option<Words>, AllocErr
 pub fn cat(alloc: Global, words: &[String]) -> Result<Action, AllocError>
     ensures { IfOk result (λ action. action ≡ asked_by Verb.Cat (map string_bytes words.now)) }
 {
-    match node_of(alloc, "cat", words)? {
+    match node_of(words) {
         Some(node) => Ok(Action::Cat {
             node: bytes_of(alloc, node)?,
         }),
@@ -68,7 +68,7 @@ pub fn ls(alloc: Global, words: &[String]) -> Result<Action, AllocError>
 pub fn put(alloc: Global, words: &[String]) -> Result<Action, AllocError>
     ensures { IfOk result (λ action. action ≡ asked_by Verb.Put (map string_bytes words.now)) }
 {
-    match pair_of(alloc, "put", words)? {
+    match pair_of(words) {
         Some((node, text)) => Ok(Action::Put {
             node: bytes_of(alloc, node)?,
             text: bytes_of(alloc, text)?,
@@ -81,7 +81,7 @@ pub fn put(alloc: Global, words: &[String]) -> Result<Action, AllocError>
 pub fn mkdir(alloc: Global, words: &[String]) -> Result<Action, AllocError>
     ensures { IfOk result (λ action. action ≡ asked_by Verb.Mkdir (map string_bytes words.now)) }
 {
-    match node_of(alloc, "mkdir", words)? {
+    match node_of(words) {
         Some(node) => Ok(Action::Mkdir {
             place: place_of(alloc, node.as_bytes())?,
         }),
@@ -93,7 +93,7 @@ pub fn mkdir(alloc: Global, words: &[String]) -> Result<Action, AllocError>
 pub fn rm(alloc: Global, words: &[String]) -> Result<Action, AllocError>
     ensures { IfOk result (λ action. action ≡ asked_by Verb.Rm (map string_bytes words.now)) }
 {
-    match node_of(alloc, "rm", words)? {
+    match node_of(words) {
         Some(node) => Ok(Action::Rm {
             place: place_of(alloc, node.as_bytes())?,
         }),
@@ -105,7 +105,7 @@ pub fn rm(alloc: Global, words: &[String]) -> Result<Action, AllocError>
 pub fn rmdir(alloc: Global, words: &[String]) -> Result<Action, AllocError>
     ensures { IfOk result (λ action. action ≡ asked_by Verb.Rmdir (map string_bytes words.now)) }
 {
-    match node_of(alloc, "rmdir", words)? {
+    match node_of(words) {
         Some(node) => Ok(Action::Rmdir {
             place: place_of(alloc, node.as_bytes())?,
         }),
@@ -117,7 +117,7 @@ pub fn rmdir(alloc: Global, words: &[String]) -> Result<Action, AllocError>
 pub fn ln(alloc: Global, words: &[String]) -> Result<Action, AllocError>
     ensures { IfOk result (λ action. action ≡ asked_by Verb.Ln (map string_bytes words.now)) }
 {
-    match pair_of(alloc, "ln", words)? {
+    match pair_of(words) {
         Some((file, new)) => Ok(Action::Ln {
             file: bytes_of(alloc, file)?,
             new: place_of(alloc, new.as_bytes())?,
@@ -130,7 +130,7 @@ pub fn ln(alloc: Global, words: &[String]) -> Result<Action, AllocError>
 pub fn mv(alloc: Global, words: &[String]) -> Result<Action, AllocError>
     ensures { IfOk result (λ action. action ≡ asked_by Verb.Mv (map string_bytes words.now)) }
 {
-    match pair_of(alloc, "mv", words)? {
+    match pair_of(words) {
         Some((old, new)) => Ok(Action::Mv {
             old: place_of(alloc, old.as_bytes())?,
             new: place_of(alloc, new.as_bytes())?,
@@ -143,7 +143,7 @@ pub fn mv(alloc: Global, words: &[String]) -> Result<Action, AllocError>
 pub fn chmod(alloc: Global, words: &[String]) -> Result<Action, AllocError>
     ensures { IfOk result (λ action. action ≡ asked_by Verb.Chmod (map string_bytes words.now)) }
 {
-    let Some((digits, node)) = pair_of(alloc, "chmod", words)? else {
+    let Some((digits, node)) = pair_of(words) else {
         return Ok(Action::Usage);
     };
     match mode(digits) {
@@ -159,7 +159,7 @@ pub fn chmod(alloc: Global, words: &[String]) -> Result<Action, AllocError>
 pub fn chown(alloc: Global, words: &[String]) -> Result<Action, AllocError>
     ensures { IfOk result (λ action. action ≡ asked_by Verb.Chown (map string_bytes words.now)) }
 {
-    let Some((owner, (group, node))) = triple_of(alloc, "chown", words)? else {
+    let Some((owner, (group, node))) = triple_of(words) else {
         return Ok(Action::Usage);
     };
     let Some(owner) = number(owner) else {
@@ -199,7 +199,7 @@ pub fn settrans(alloc: Global, words: &[String]) -> Result<Action, AllocError>
 pub fn showtrans(alloc: Global, words: &[String]) -> Result<Action, AllocError>
     ensures { IfOk result (λ action. action ≡ asked_by Verb.Showtrans (map string_bytes words.now)) }
 {
-    match node_of(alloc, "showtrans", words)? {
+    match node_of(words) {
         Some(node) => Ok(Action::Showtrans {
             node: bytes_of(alloc, node)?,
         }),
@@ -212,7 +212,7 @@ pub fn fsysopts(alloc: Global, words: &[String]) -> Result<Action, AllocError>
     ensures { IfOk result (λ action. action ≡ asked_by Verb.Fsysopts (map string_bytes words.now)) }
 {
     let (front, behind) = words.split_at(words.len().min(1));
-    let Some(node) = node_of(alloc, "fsysopts", front)? else {
+    let Some(node) = node_of(front) else {
         return Ok(Action::Usage);
     };
     match words_from(alloc, behind)? {

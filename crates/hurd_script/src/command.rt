@@ -149,7 +149,7 @@ impl Command {
             && same_texts(self.words.as_slice(), other.words.as_slice())
     }
 
-    /// What the words ask for, read with clap.
+    /// What the words ask for. Clap reads those with flags.
     ///
     /// A word that begins with `-`, other than `-` itself, is a flag. `ls` takes the flag `-d`, once at most,
     /// `settrans` takes `-a`, `-p`, `-c`, `-x`, `-g`, `-k`, `-f` and `-o`, also joined as in `-ac`, each once at most

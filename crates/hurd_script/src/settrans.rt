@@ -1,9 +1,9 @@
-//! The words of `settrans`, read with clap.
-ghost use Rattle.std.specs.Prelude.{◌≡◌, ◌≤◌, IfOk, drop, length, map, option_map, string_bytes};
+//! The words of `settrans`. Clap reads flags.
+ghost use Rattle.std.specs.Prelude.{◌≡◌, ◌≤◌, [], IfOk, drop, length, map, option_map, string_bytes};
 ghost use Rattle.std.specs.List.{list_all};
 ghost use Rattle.clap.specs.Words.{app_of, found_of, rows_of, with_rule};
 ghost use Rattle.hurd_script.specs.Flags.{is_flag_word};
-ghost use Rattle.hurd_script.specs.Settrans.{are_known_once, flag_count, from_node, is_at_odds, is_known, leading_flags, letters_of, setting_of};
+ghost use Rattle.hurd_script.specs.Settrans.{are_known_once, flag_count, flags_from, from_node, is_at_odds, is_known, leading_flags, letters_of, setting_of};
 ghost use Rattle.hurd_script.specs.Usage.{IsFound, letter_flag, settrans_app};
 
 use crate::usage::{is_flag_word, letter_flag, matched, node_command};
@@ -32,6 +32,22 @@ pub struct SettransFlags {
 }
 
 impl SettransFlags {
+    /// No flag.
+    fn none() -> SettransFlags
+        ensures { result ≡ flags_from [] }
+    {
+        SettransFlags {
+            active: false,
+            passive: false,
+            create: false,
+            exclusive: false,
+            goaway: false,
+            keep: false,
+            force: false,
+            orphan: false,
+        }
+    }
+
     /// Whether an active translator is to stay as it is, and another flag is about it.
     pub(crate) fn is_at_odds(&self) -> bool
         ensures { result ≡ is_at_odds self.now }
@@ -146,6 +162,7 @@ fn flags_found(matches: &ArgMatches) -> SettransFlags
 }
 
 /// The flags, the node and the words behind it, where there is a node and the flags are good.
+/// Clap is asked where a flag stands in front.
 pub fn setting_of<'a>(alloc: Global, words: &'a [String]) -> Result<Option<Setting<'a>>, AllocError>
     ensures { let ws = map string_bytes words.entry.now in
         IfOk result (λ found. option_map (λ s. (s.flags, (s.node.now, map string_bytes s.words.now))) found ≡ setting_of (letters_of (leading_flags ws)) (from_node ws)) }
@@ -153,6 +170,13 @@ pub fn setting_of<'a>(alloc: Global, words: &'a [String]) -> Result<Option<Setti
     let count = flag_count(words);
     if count == words.len() {
         return Ok(None);
+    }
+    if count == 0 {
+        return Ok(Some(Setting {
+            flags: SettransFlags::none(),
+            node: words[0].as_str(),
+            words: &words[1..],
+        }));
     }
     let letters = letters_of(alloc, &words[..count])?;
     if !are_known_once(letters.as_slice()) {

@@ -1,9 +1,9 @@
-//! The words that commands take, read with clap.
+//! The words that commands take. Clap reads those with flags.
 ghost use Rattle.std.specs.Prelude.{◌≡◌, ◌≢◌, ◌⊎◌, [], IfOk, MatchOption, codes, false, map, option_copied, option_map, string_bytes, true};
 ghost use Rattle.std.specs.List.{list_any};
 ghost use Rattle.clap.specs.Words.{app_of, fault_of, found_of, is_simple_and_free, rows_of, rule_of};
 ghost use Rattle.hurd_script.specs.Flags.{flags_of, is_flag_word, operands_of};
-ghost use Rattle.hurd_script.specs.Usage.{ReadsAs, bare_app, both, first_app, is_other_flag, letter_flag, list_app, listed, lone, node_app, operand, pair_app, three, triple_app};
+ghost use Rattle.hurd_script.specs.Usage.{ReadsAs, bare_app, both, is_other_flag, letter_flag, list_app, listed, lone, node_app, operand, three};
 
 use clap::error::ErrorKind;
 use clap::{Arg, ArgAction, ArgMatches, Command};
@@ -81,32 +81,11 @@ pub fn node_command<'a>(alloc: Global, name: &'a str) -> Result<Command<'a>, All
     bare_command(alloc, name).arg(operand(alloc, "node"))
 }
 
-/// A command that takes the first of two words.
-fn first_command<'a>(alloc: Global, name: &'a str) -> Result<Command<'a>, AllocError>
-    ensures { IfOk result (λ command. app_of command ≡ first_app name.entry.now) }
-{
-    bare_command(alloc, name).arg(operand(alloc, "first"))
-}
-
 /// A command that takes a node, and the flag `-d`.
 fn list_command<'a>(alloc: Global, name: &'a str) -> Result<Command<'a>, AllocError>
     ensures { IfOk result (λ command. app_of command ≡ list_app name.entry.now) }
 {
     node_command(alloc, name)?.arg(letter_flag(alloc, "itself", 'd'))
-}
-
-/// A command that takes two words.
-fn pair_command<'a>(alloc: Global, name: &'a str) -> Result<Command<'a>, AllocError>
-    ensures { IfOk result (λ command. app_of command ≡ pair_app name.entry.now) }
-{
-    first_command(alloc, name)?.arg(operand(alloc, "second"))
-}
-
-/// A command that takes three words.
-fn triple_command<'a>(alloc: Global, name: &'a str) -> Result<Command<'a>, AllocError>
-    ensures { IfOk result (λ command. app_of command ≡ triple_app name.entry.now) }
-{
-    pair_command(alloc, name)?.arg(operand(alloc, "third"))
 }
 
 /// What clap makes of the words, unless it refuses them.
@@ -132,63 +111,51 @@ pub fn matched<'a>(
 }
 
 /// The one node that the words are, where none is a flag.
-pub fn node_of<'a>(
-    alloc: Global,
-    name: &'a str,
-    words: &'a [String],
-) -> Result<Option<&'a str>, AllocError>
-    ensures { let ws = map string_bytes words.entry.now in
-        IfOk result (λ node. option_copied node ≡ lone (flags_of ws) (operands_of ws)) }
+pub fn node_of(words: &[String]) -> Option<&str>
+    ensures { let ws = map string_bytes words.now in option_copied result ≡ lone (flags_of ws) (operands_of ws) }
 {
     if has_flag(words) {
-        return Ok(None);
+        return None;
     }
-    match matched(node_command(alloc, name)?, words)? {
-        Some(matches) => Ok(matches.get_str("node")),
-        None => Ok(None),
+    if words.len() == 1 {
+        Some(words[0].as_str())
+    } else {
+        None
     }
 }
 
 /// The two words, where none is a flag.
-pub fn pair_of<'a>(
-    alloc: Global,
-    name: &'a str,
-    words: &'a [String],
-) -> Result<Option<(&'a str, &'a str)>, AllocError>
-    ensures { let ws = map string_bytes words.entry.now in
-        IfOk result (λ pair. option_map (λ p. (p.0.now, p.1.now)) pair ≡ both (flags_of ws) (operands_of ws)) }
+pub fn pair_of(words: &[String]) -> Option<(&str, &str)>
+    ensures { let ws = map string_bytes words.now in
+        option_map (λ p. (p.0.now, p.1.now)) result ≡ both (flags_of ws) (operands_of ws) }
 {
     if has_flag(words) {
-        return Ok(None);
+        return None;
     }
-    match matched(pair_command(alloc, name)?, words)? {
-        Some(matches) => Ok(matches.get_str("first").zip(matches.get_str("second"))),
-        None => Ok(None),
+    if words.len() == 2 {
+        Some((words[0].as_str(), words[1].as_str()))
+    } else {
+        None
     }
 }
 
 /// The three words, where none is a flag.
-pub fn triple_of<'a>(
-    alloc: Global,
-    name: &'a str,
-    words: &'a [String],
-) -> Result<Option<(&'a str, (&'a str, &'a str))>, AllocError>
-    ensures { let ws = map string_bytes words.entry.now in
-        IfOk result (λ triple. option_map (λ t. (t.0.now, (t.1.0.now, t.1.1.now))) triple ≡ three (flags_of ws) (operands_of ws)) }
+pub fn triple_of(words: &[String]) -> Option<(&str, (&str, &str))>
+    ensures { let ws = map string_bytes words.now in
+        option_map (λ t. (t.0.now, (t.1.0.now, t.1.1.now))) result ≡ three (flags_of ws) (operands_of ws) }
 {
     if has_flag(words) {
-        return Ok(None);
+        return None;
     }
-    match matched(triple_command(alloc, name)?, words)? {
-        Some(matches) => {
-            let rest = matches.get_str("second").zip(matches.get_str("third"));
-            Ok(matches.get_str("first").zip(rest))
-        }
-        None => Ok(None),
+    if words.len() == 3 {
+        Some((words[0].as_str(), (words[1].as_str(), words[2].as_str())))
+    } else {
+        None
     }
 }
 
 /// The one node, and whether the flag `-d` is there, where no other flag is and it is there once at most.
+/// Clap is asked where the words are not a node alone.
 pub fn listed_of<'a>(
     alloc: Global,
     name: &'a str,
@@ -197,6 +164,9 @@ pub fn listed_of<'a>(
     ensures { let ws = map string_bytes words.entry.now in
         IfOk result (λ node. option_map (λ p. (p.0.now, p.1)) node ≡ listed (flags_of ws) (operands_of ws)) }
 {
+    if let Some(node) = node_of(words) {
+        return Ok(Some((node, false)));
+    }
     if has_other_flag(words) {
         return Ok(None);
     }

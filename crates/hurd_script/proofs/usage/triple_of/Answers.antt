@@ -1,21 +1,19 @@
-use Rattle.std.proofs.Common.{◌∙◌, codes, map, refl, string_bytes, sym, Global}
-use Rattle.clap.specs.Words.{found_of, rows_of}
-use Rattle.clap.proofs.WalkLemmas.{first_value-rows}
-use Rattle.hurd_script.specs.Usage.{HasTriple, three}
-use Rattle.hurd_script.proofs.UsageLemmas.{read, takes_no_flag, triple_answer, triple_value, unread}
+use Rattle.std.proofs.Common.{◌∙◌, arith, map, refl, string_bytes, sym, Global}
+use Rattle.std.proofs.lemmas.List.{length-map}
+use Rattle.hurd_script.specs.Usage.{three}
+use Rattle.hurd_script.proofs.UsageLemmas.{takes_no_flag, takes_operands, three_only, three_said}
 use Rattle.hurd_script.proofs.usage.triple_of.Goals as goal
 
 pub returns-then-has_flag : goal.returns-then-has_flag
 returns-then-has_flag c = takes_no_flag three (map (string_bytes {Z = Global}) c.args.words.now) (λ f fs ws. refl) (sym c.has_flag.ensures ∙ c.if-has_flag.true)
 
-pub returns-in-Some : goal.returns-in-Some
-returns-in-Some c =
-    let p = rw c.in-Some.is at c.in_ok-matches.ensures in
-    let r = read _ _ _ _ HasTriple _ c.in_ok-triple_command.ensures (triple_answer c.args.name.now (map (string_bytes {Z = Global}) c.args.words.now) (sym c.has_flag.ensures ∙ c.if-has_flag.false)) p.0 p.1 in
-    let said = first_value-rows (found_of c.in-Some.matches) in
-    triple_value c.get_str-in-Some-2.result c.get_str.result c.get_str-in-Some.result c.zip-rest.result c.zip.result (rows_of (found_of c.in-Some.matches)) r.0 _ c.zip-rest.ensures c.zip.ensures
-    (c.get_str-in-Some-2.ensures ∙ said (codes "first")) (c.get_str.ensures ∙ said (codes "second")) (c.get_str-in-Some.ensures ∙ said (codes "third")) r.1
+pub returns-else-words-eq3 : goal.returns-else-words-eq3
+returns-else-words-eq3 c =
+    let ws = map (string_bytes {Z = Global}) c.args.words.now in
+    three_only ws (λ e. omega (arith, e, length-map c.args.words.now (string_bytes {Z = Global}), c.if-words-eq3.false)) ∙ takes_operands three ws (sym c.has_flag.ensures ∙ c.if-has_flag.false)
 
-pub returns-in-None : goal.returns-in-None
-returns-in-None c =
-    unread _ _ _ HasTriple _ c.in_ok-triple_command.ensures (triple_answer c.args.name.now (map (string_bytes {Z = Global}) c.args.words.now) (sym c.has_flag.ensures ∙ c.if-has_flag.false)) (rw c.in-None.is at c.in_ok-matches.ensures)
+pub returns-then-words-eq3 : goal.returns-then-words-eq3
+returns-then-words-eq3 c =
+    three_said (string_bytes {Z = Global}) c.args.words.now _ _ _ c.if-words-eq3.true c.index-words-0.is c.index-words-1.is c.index-words-2.is
+    c.as_str.ensures.value c.as_str-then-words-eq3.ensures.value c.as_str-then-words-eq3-2.ensures.value
+    ∙ takes_operands three (map (string_bytes {Z = Global}) c.args.words.now) (sym c.has_flag.ensures ∙ c.if-has_flag.false)
