@@ -11,7 +11,7 @@ use Rattle.hurd_views.specs.Views.{row_at}
 use Rattle.hurd_views.specs.declared.rows.Row.{Row}
 use Rattle.hurd_views.specs.declared.view.View.{View}
 use Rattle.hurd_looks.specs.Meets.{Agrees, IsOneToOne, KeepOwn, Meets, Pairing}
-unfoldable use Rattle.hurd_looks.specs.Meets.{Pairs}
+unfoldable use Rattle.hurd_looks.specs.Meets.{PairsFor}
 use Rattle.hurd_looks.specs.Renamed.{AreAlike, IsAside, listed, named_row_renamed, row_renamed}
 use Rattle.hurd_looks.proofs.Lives.{lives, own_kept}
 use Rattle.hurd_looks.proofs.MeetLaws.{pairs_as, pairs_both, pairs_no}
@@ -88,13 +88,13 @@ keep_all S ps k past each = keep_each S ps (λ j p is. each j (before ps k j p i
 
 -- what pairs say, by how that ended
 
-never_so : (P : (Name → Name) → Type 0) (old : Pairing) (met : Bool) (new : Pairing) → met ≡ false → Pairs P old met new → (f : OtherNames) → RaisesCounts f → Agrees f old → P f.to → ⊥
-unfolding Pairs
+never_so : (P : (Name → Name) → Type 0) (old : Pairing) (met : Bool) (new : Pairing) → met ≡ false → PairsFor P old met new → (f : OtherNames) → RaisesCounts f → Agrees f old → P f.to → ⊥
+unfolding PairsFor
 never_so P old true new not_met h f raises agrees holds = true≢false not_met
 never_so P old false new not_met h f raises agrees holds = h f raises agrees holds
 
-so_then : (P : (Name → Name) → Type 0) (old : Pairing) (met : Bool) (new : Pairing) → met ≡ true → Pairs P old met new → (f : OtherNames) → RaisesCounts f → Agrees f new ↔ (Agrees f old × P f.to)
-unfolding Pairs
+so_then : (P : (Name → Name) → Type 0) (old : Pairing) (met : Bool) (new : Pairing) → met ≡ true → PairsFor P old met new → (f : OtherNames) → RaisesCounts f → Agrees f new ↔ (Agrees f old × P f.to)
+unfolding PairsFor
 so_then P old false new is_met h = absurd (true≢false (sym is_met))
 so_then P old true new is_met h = h
 
@@ -114,17 +114,17 @@ module _ (S : ℕ → Bool) (a b : View) where
   other_count apart = (λ bad. absurd (true≢false (sym bad)), λ alike. absurd (apart alike.2.count))
 
   module _ (start : Pairing) (is : start ≡ (boot_name, boot_name) ∷ []) where
-    pub seats_differ : (met : Bool) (mid : Pairing) → met ≡ false → Pairs Seats start met mid → IsTrue false ↔ AreAlike S a b
+    pub seats_differ : (met : Bool) (mid : Pairing) → met ≡ false → PairsFor Seats start met mid → IsTrue false ↔ AreAlike S a b
     seats_differ met mid not_met h =
         (λ bad. absurd (true≢false (sym bad)), λ alike. absurd (never_so _ start met mid not_met h alike.0 alike.1.raises (from_boot alike.0 start is) alike.2.seats))
 
-    module _ (met : Bool) (mid : Pairing) (is_met : met ≡ true) (h : Pairs Seats start met mid) where
-      pub rows_differ : (next : Bool) (new : Pairing) → next ≡ false → Pairs Rows mid next new → IsTrue false ↔ AreAlike S a b
+    module _ (met : Bool) (mid : Pairing) (is_met : met ≡ true) (h : PairsFor Seats start met mid) where
+      pub rows_differ : (next : Bool) (new : Pairing) → next ≡ false → PairsFor Rows mid next new → IsTrue false ↔ AreAlike S a b
       rows_differ next new not_met k =
           let both = pairs_both Seats Rows start met mid next new is_met h k in
           (λ bad. absurd (true≢false (sym bad)), λ alike. absurd (never_so _ start next new not_met both alike.0 alike.1.raises (from_boot alike.0 start is) (alike.2.seats, alike.2.rows)))
 
-      module _ (next : Bool) (new : Pairing) (is_next : next ≡ true) (k : Pairs Rows mid next new) (count : a.count ≡ b.count) (one : IsOneToOne new) where
+      module _ (next : Bool) (new : Pairing) (is_next : next ≡ true) (k : PairsFor Rows mid next new) (count : a.count ≡ b.count) (one : IsOneToOne new) where
         ends : (f : OtherNames) → RaisesCounts f → Agrees f new ↔ (Agrees f start × (Seats f.to × Rows f.to))
         ends = so_then _ start next new is_next (pairs_both Seats Rows start met mid next new is_met h k)
 

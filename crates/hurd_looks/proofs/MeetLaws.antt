@@ -8,7 +8,7 @@ use Rattle.hurd_machine.proofs.Common.{Name, same_name}
 use Rattle.hurd_machine.specs.Renamed.{OtherNames}
 use Rattle.hurd_sight.specs.Parts.{is_in}
 use Rattle.hurd_looks.specs.Meets.{Agrees, Meets, Pairing}
-unfoldable use Rattle.hurd_looks.specs.Meets.{Pairs}
+unfoldable use Rattle.hurd_looks.specs.Meets.{PairsFor}
 
 -- what holds of each answer that is no want of memory
 pub ok_then : {A E : Type 0} (P Q : A → Type 0) → ((x : A) → P x → Q x) → (r : Result A E) → IfOk r P → IfOk r Q
@@ -33,20 +33,20 @@ said_no says is holds = true≢false (sym (says.1 holds) ∙ is)
 
 module _ (P Q : (Name → Name) → Type 0) where
   -- one that says the same
-  pub pairs_as : ((g : Name → Name) → P g ↔ Q g) → (old : Pairing) (met : Bool) (new : Pairing) → Pairs P old met new → Pairs Q old met new
-  unfolding Pairs
+  pub pairs_as : ((g : Name → Name) → P g ↔ Q g) → (old : Pairing) (met : Bool) (new : Pairing) → PairsFor P old met new → PairsFor Q old met new
+  unfolding PairsFor
   pairs_as same old true new h = λ f raises. let k = h f raises in (λ x. ((k.0 x).0, (same f.to).0 (k.0 x).1), λ y. k.1 (y.0, (same f.to).1 y.1))
   pairs_as same old false new h = λ f raises before holds. h f raises before ((same f.to).1 holds)
 
   -- one that must hold doesn't
-  pub pairs_no : ((g : Name → Name) → Q g → P g) → (old : Pairing) (met : Bool) (new : Pairing) → met ≡ false → Pairs P old met new → Pairs Q old false new
-  unfolding Pairs
+  pub pairs_no : ((g : Name → Name) → Q g → P g) → (old : Pairing) (met : Bool) (new : Pairing) → met ≡ false → PairsFor P old met new → PairsFor Q old false new
+  unfolding PairsFor
   pairs_no part old true new is h = absurd (true≢false is)
   pairs_no part old false new is h = λ f raises before holds. h f raises before (part f.to holds)
 
   -- two, one after the other
-  pub pairs_both : (old : Pairing) (met : Bool) (mid : Pairing) (next : Bool) (new : Pairing) → met ≡ true → Pairs P old met mid → Pairs Q mid next new → Pairs (λ g. P g × Q g) old next new
-  unfolding Pairs
+  pub pairs_both : (old : Pairing) (met : Bool) (mid : Pairing) (next : Bool) (new : Pairing) → met ≡ true → PairsFor P old met mid → PairsFor Q mid next new → PairsFor (λ g. P g × Q g) old next new
+  unfolding PairsFor
   pairs_both old false mid next new is h k = absurd (true≢false (sym is))
   pairs_both old true mid true new is h k = λ f raises.
       let a = h f raises in
@@ -55,17 +55,17 @@ module _ (P Q : (Name → Name) → Type 0) where
   pairs_both old true mid false new is h k = λ f raises before holds. k f raises ((h f raises).1 (before, holds.0)) holds.1
 
 -- one that holds of no names
-pub pairs_never : (P : (Name → Name) → Type 0) → ((g : Name → Name) → P g → ⊥) → (old new : Pairing) → Pairs P old false new
-unfolding Pairs
+pub pairs_never : (P : (Name → Name) → Type 0) → ((g : Name → Name) → P g → ⊥) → (old new : Pairing) → PairsFor P old false new
+unfolding PairsFor
 pairs_never P never old new f raises before holds = never f.to holds
 
 -- one that holds of all
-pub pairs_ever : (P : (Name → Name) → Type 0) → ((g : Name → Name) → P g) → (old new : Pairing) → new ≡ old → Pairs P old true new
-unfolding Pairs
+pub pairs_ever : (P : (Name → Name) → Type 0) → ((g : Name → Name) → P g) → (old new : Pairing) → new ≡ old → PairsFor P old true new
+unfolding PairsFor
 pairs_ever P ever old new same f raises = rw same (λ x. (x, ever f.to), λ y. y.0)
 
 -- one that goes by no names
-pub pairs_if : (P : (Name → Name) → Type 0) (b : Bool) → (b ≡ true → (g : Name → Name) → P g) → ((g : Name → Name) → P g → b ≡ true) → (old : Pairing) → Pairs P old b old
+pub pairs_if : (P : (Name → Name) → Type 0) (b : Bool) → (b ≡ true → (g : Name → Name) → P g) → ((g : Name → Name) → P g → b ≡ true) → (old : Pairing) → PairsFor P old b old
 pairs_if P true ever only old = pairs_ever P (ever refl) old old refl
 pairs_if P false ever only old = pairs_never P (λ g holds. true≢false (sym (only g holds))) old old
 
@@ -138,20 +138,20 @@ module _ {A : Type 0} (r : (Name → Name) → A → A) where
 
   -- as pairs
 
-  pub before_none : (xs ys : List A) (old new : Pairing) → new ≡ old → Pairs (λ g. Before g zero xs ys) old true new
+  pub before_none : (xs ys : List A) (old new : Pairing) → new ≡ old → PairsFor (λ g. Before g zero xs ys) old true new
   before_none xs ys old new same = pairs_ever _ (λ g. tt) old new same
 
   one_on : (i : ℕ) → suc i ≡ i + 1
   one_on i = omega arith
 
   pub before_next : (i : ℕ) (xs ys : List A) (x y : A) → slice_get xs i ≡ Some x → slice_get ys i ≡ Some y → (old mid : Pairing) (met : Bool) (new : Pairing) → met ≡ true
-      → Pairs (λ g. Before g i xs ys) old true mid → Meets r x y mid met new → Pairs (λ g. Before g (i + 1) xs ys) old true new
-  before_next i xs ys x y is at old mid met new is_met h k = subst (λ (j : ℕ). Pairs (λ g. Before g j xs ys) old true new) (one_on i)
+      → PairsFor (λ g. Before g i xs ys) old true mid → Meets r x y mid met new → PairsFor (λ g. Before g (i + 1) xs ys) old true new
+  before_next i xs ys x y is at old mid met new is_met h k = subst (λ (j : ℕ). PairsFor (λ g. Before g j xs ys) old true new) (one_on i)
       (pairs_as _ _ (λ g. let e = before_more g i xs ys x y is at in (e.1, e.0)) old true new
       (pairs_both (λ g. Before g i xs ys) (λ g. r g x ≡ y) old true mid true new refl h (subst (λ (b : Bool). Meets r x y mid b new) is_met k)))
 
   pub before_stops : (i : ℕ) (xs ys : List A) (x y : A) → slice_get xs i ≡ Some x → slice_get ys i ≡ Some y → length xs ≡ length ys → (old mid : Pairing) (met : Bool) (new : Pairing) → met ≡ false
-      → Pairs (λ g. Before g i xs ys) old true mid → Meets r x y mid met new → Pairs (λ g. map (r g) xs ≡ ys) old false new
+      → PairsFor (λ g. Before g i xs ys) old true mid → Meets r x y mid met new → PairsFor (λ g. map (r g) xs ≡ ys) old false new
   before_stops i xs ys x y is at long old mid met new not_met h k =
       pairs_no (λ g. Before g i xs ys × (r g x ≡ y)) (λ g. map (r g) xs ≡ ys) (λ g e. (before_more g i xs ys x y is at).0 (upto g e)) old false new refl
       (pairs_both (λ g. Before g i xs ys) (λ g. r g x ≡ y) old true mid false new refl h (subst (λ (b : Bool). Meets r x y mid b new) not_met k))
@@ -165,7 +165,7 @@ module _ {A : Type 0} (r : (Name → Name) → A → A) where
       upto : (g : Name → Name) → map (r g) xs ≡ ys → Before g (suc i) xs ys
       upto g e = first g (suc i) xs ys e
 
-  pub before_done : (i : ℕ) (xs ys : List A) → length xs ≤ i → length xs ≡ length ys → (old new : Pairing) → Pairs (λ g. Before g i xs ys) old true new → Pairs (λ g. map (r g) xs ≡ ys) old true new
+  pub before_done : (i : ℕ) (xs ys : List A) → length xs ≤ i → length xs ≡ length ys → (old new : Pairing) → PairsFor (λ g. Before g i xs ys) old true new → PairsFor (λ g. map (r g) xs ≡ ys) old true new
   before_done i xs ys past long old new h = pairs_as _ _ (λ g. before_all g i xs ys past long) old true new h
 
   mapped_long : (g : Name → Name) (xs : List A) → length (map (r g) xs) ≡ length xs
@@ -173,7 +173,7 @@ module _ {A : Type 0} (r : (Name → Name) → A → A) where
   mapped_long g (x ∷ xs) = ap suc (mapped_long g xs)
 
   -- lists that aren't as long
-  pub other_length : (xs ys : List A) → (length xs ≡ length ys → ⊥) → (old new : Pairing) → Pairs (λ g. map (r g) xs ≡ ys) old false new
+  pub other_length : (xs ys : List A) → (length xs ≡ length ys → ⊥) → (old new : Pairing) → PairsFor (λ g. map (r g) xs ≡ ys) old false new
   other_length xs ys apart old new = pairs_never _ (λ g e. apart (sym (mapped_long g xs) ∙ ap length e)) old new
 
 -- what may be there
@@ -182,17 +182,17 @@ module _ {A : Type 0} (r : (Name → Name) → A → A) (a b : Option A) (old ne
   abbrev Maps : (Name → Name) → Type 0
   Maps g = option_map (r g) a ≡ b
 
-  pub some_meets : (x y : A) (met : Bool) → a ≡ Some x → b ≡ Some y → Meets r x y old met new → Pairs Maps old met new
+  pub some_meets : (x y : A) (met : Bool) → a ≡ Some x → b ≡ Some y → Meets r x y old met new → PairsFor Maps old met new
   some_meets x y met is at h = pairs_as _ _ (λ g. same g) old met new h
     where
       same : (g : Name → Name) → (r g x ≡ y) ↔ Maps g
       same g = (λ e. ap (option_map (r g)) is ∙ ap (λ (z : A). Some z) e ∙ sym at, λ e. let one : Some (r g x) ≡ Some y = sym (ap (option_map (r g)) is) ∙ e ∙ at in cc)
 
-  pub none_meets : a ≡ None → b ≡ None → new ≡ old → Pairs Maps old true new
+  pub none_meets : a ≡ None → b ≡ None → new ≡ old → PairsFor Maps old true new
   none_meets is at same = pairs_ever _ (λ g. ap (option_map (r g)) is ∙ sym at) old new same
 
-  pub some_alone : (x : A) → a ≡ Some x → b ≡ None → Pairs Maps old false new
+  pub some_alone : (x : A) → a ≡ Some x → b ≡ None → PairsFor Maps old false new
   some_alone x is at = pairs_never _ (λ g e. let bad : Some (r g x) ≡ None = sym (ap (option_map (r g)) is) ∙ e ∙ at in absurd (cc)) old new
 
-  pub none_alone : (y : A) → a ≡ None → b ≡ Some y → Pairs Maps old false new
+  pub none_alone : (y : A) → a ≡ None → b ≡ Some y → PairsFor Maps old false new
   none_alone y is at = pairs_never _ (λ g e. let bad : None ≡ Some y = sym (ap (option_map (r g)) is) ∙ e ∙ at in absurd (cc)) old new

@@ -8,7 +8,7 @@ use Rattle.hurd_machine.proofs.Common.{Name, same_name}
 use Rattle.hurd_machine.specs.Renamed.{OtherNames}
 use Rattle.hurd_sight.specs.Parts.{is_in}
 use Rattle.hurd_looks.specs.Meets.{Agrees, AreApart, FromBoot, HaveOneMaker, IsOneToOne, KeepOwn, Pairing}
-unfoldable use Rattle.hurd_looks.specs.Meets.{Pairs}
+unfoldable use Rattle.hurd_looks.specs.Meets.{PairsFor}
 use Rattle.hurd_looks.proofs.MeetLaws.{agrees_more, found_says, taken_says}
 
 abbrev pub firsts : Pairing → List Name
@@ -91,27 +91,27 @@ module _ (n m : Name) (old : Pairing) where
   abbrev Called : (Name → Name) → Type 0
   Called g = g n ≡ m
 
-  pub other_maker : (n.task.0 ≡ m.task.0 → ⊥) → Pairs Called old false old
-  unfolding Pairs
+  pub other_maker : (n.task.0 ≡ m.task.0 → ⊥) → PairsFor Called old false old
+  unfolding PairsFor
   other_maker apart f raises before called = apart (sym (raises.task n) ∙ ap (λ (k : Name). k.task.0) called)
 
-  pub was_paired : (k : Name) (b : Bool) → lookup (same_name n) old ≡ Some k → b ≡ same_name k m → Pairs Called old b old
-  unfolding Pairs
+  pub was_paired : (k : Name) (b : Bool) → lookup (same_name n) old ≡ Some k → b ≡ same_name k m → PairsFor Called old b old
+  unfolding PairsFor
   was_paired k b found is = go b is
     where
       says : (f : OtherNames) → Agrees f old → f.to n ≡ k
       says f agrees = found_says f old n k found agrees
 
-      go : (b : Bool) → b ≡ same_name k m → Pairs Called old b old
+      go : (b : Bool) → b ≡ same_name k m → PairsFor Called old b old
       go true is = λ f raises. (λ agrees. (agrees, says f agrees ∙ equal_if_same k m (sym is)), λ both. both.0)
       go false is = λ f raises agrees called. true≢false (sym (ap (same_name k) (sym called ∙ says f agrees) ∙ same_name-itself k) ∙ sym is)
 
-  pub was_taken : lookup (same_name n) old ≡ None → is_in m (seconds old) ≡ true → Pairs Called old false old
-  unfolding Pairs
+  pub was_taken : lookup (same_name n) old ≡ None → is_in m (seconds old) ≡ true → PairsFor Called old false old
+  unfolding PairsFor
   was_taken none taken f raises agrees called = taken_says f old n m taken agrees called none
 
-  pub is_paired : (new : Pairing) → new ≡ old ++ (n, m) ∷ [] → Pairs Called old true new
-  unfolding Pairs
+  pub is_paired : (new : Pairing) → new ≡ old ++ (n, m) ∷ [] → PairsFor Called old true new
+  unfolding PairsFor
   is_paired new is f raises = rw is (agrees_more f old n m)
 
 -- what some tasks made keeps its name

@@ -15,15 +15,15 @@ abbrev pub Agrees : OtherNames → Pairing → Type 0
 Agrees f [] = Unit {0}
 Agrees f (p ∷ ps) = (f.to p.0 ≡ p.1) × Agrees f ps
 
--- pairs were added for something that may hold of other names: with these, names are as the pairs say exactly where they were so before, and it holds of them;
--- or it holds of no names that were so before
-unfoldable pub Pairs : ((Name → Name) → Type 0) → Pairing → Bool → Pairing → Type 0
-Pairs P old true new = (f : OtherNames) → RaisesCounts f → Agrees f new ↔ (Agrees f old × P f.to)
-Pairs P old false new = (f : OtherNames) → RaisesCounts f → Agrees f old → P f.to → ⊥
+-- pairs were added for what may hold of other names. If it could: names are as the new pairs say exactly where they are as the old ones say, and it holds of them.
+-- If it couldn't: it holds of no names that are as the old pairs say
+unfoldable pub PairsFor : ((Name → Name) → Type 0) → Pairing → Bool → Pairing → Type 0
+PairsFor P old true new = (f : OtherNames) → RaisesCounts f → Agrees f new ↔ (Agrees f old × P f.to)
+PairsFor P old false new = (f : OtherNames) → RaisesCounts f → Agrees f old → P f.to → ⊥
 
 -- two things met: other names make the one of the other
 abbrev pub Meets : {A : Type 0} → ((Name → Name) → A → A) → A → A → Pairing → Bool → Pairing → Type 0
-Meets renamed a b old met new = Pairs (λ f. renamed f a ≡ b) old met new
+Meets renamed a b old met new = PairsFor (λ f. renamed f a ≡ b) old met new
 
 -- the pairs begin with the boot root, which keeps its name
 abbrev pub FromBoot : Pairing → Type 0
