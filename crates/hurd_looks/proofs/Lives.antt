@@ -2,6 +2,7 @@
 use Rattle.std.proofs.Common.{◌≡◌, ◌∙◌, ◌+◌, ◌<◌, ◌≤◌, ℕ, zero, suc, Bool, true, false, true≢false, [], ◌∷◌, cond, Option, Some, None, refl, sym, ap, ap₂, arith}
 use Rattle.std.specs.Prelude.{◌||◌, if◌then◌else◌, slice_get}
 use Rattle.std.specs.Map.{lookup}
+use Rattle.std.proofs.lemmas.Bool.{or_right}
 use Rattle.hurd_creds.proofs.NameLaws.{equal_if_same, same_name-itself}
 use Rattle.hurd_nodes.specs.Shown.{boot_name}
 use Rattle.hurd_machine.proofs.Common.{Name, TaskId, same_name}
@@ -49,11 +50,7 @@ called_in : (ps : Pairing) (n m : Name) → called n ps ≡ Some m → is_in m (
 called_in [] n m is = absurd (cc)
 called_in (p ∷ ps) n m is = here_or_later (is_in m (seconds (p ∷ ps)) ≡ true) n p ps m is
     (λ same one. ap (λ (b : Bool). b || is_in m (seconds ps)) (ap (same_name m) one ∙ same_name-itself m))
-    (λ later. or_later (same_name m p.1) (called_in ps n m later))
-  where
-    or_later : (b : Bool) {c : Bool} → c ≡ true → (b || c) ≡ true
-    or_later true is = refl
-    or_later false is = is
+    (λ later. or_right (same_name m p.1) (is_in m (seconds ps)) (called_in ps n m later))
 
 -- two names that are called the same are one
 called_apart : (ps : Pairing) (n q m : Name) → AreApart (seconds ps) → called n ps ≡ Some m → called q ps ≡ Some m → n ≡ q
@@ -71,11 +68,7 @@ called_apart (p ∷ ps) n q m apart is at = here_or_later (n ≡ q) n p ps m is
 in_firsts : (ps : Pairing) (i : ℕ) (p : Name × Name) → slice_get ps i ≡ Some p → is_in p.0 (firsts ps) ≡ true
 in_firsts [] i p is = absurd (cc)
 in_firsts (q ∷ ps) zero p is = let one : q ≡ p = cc in ap (λ (b : Bool). b || is_in p.0 (firsts ps)) (ap (λ (k : Name × Name). same_name p.0 k.0) one ∙ same_name-itself p.0)
-in_firsts (q ∷ ps) (suc i) p is = or_later (same_name p.0 q.0) (in_firsts ps i p is)
-  where
-    or_later : (b : Bool) {c : Bool} → c ≡ true → (b || c) ≡ true
-    or_later true is = refl
-    or_later false is = is
+in_firsts (q ∷ ps) (suc i) p is = or_right (same_name p.0 q.0) (is_in p.0 (firsts ps)) (in_firsts ps i p is)
 
 called_so : (ps : Pairing) → AreApart (firsts ps) → (i : ℕ) (p : Name × Name) → slice_get ps i ≡ Some p → called p.0 ps ≡ Some p.1
 called_so [] apart i p is = absurd (cc)
