@@ -2,6 +2,8 @@
 use Rattle.std.proofs.Common.{◌≡◌, ◌∙◌, ◌+◌, ◌<◌, ◌≤◌, ℕ, zero, suc, Bool, true, false, true≢false, List, [], ◌∷◌, map, length, Option, Some, None, refl, sym, ap, ap₂, subst, inl, inr, arith}
 use Rattle.std.specs.Prelude.{◌↔◌, IsTrue, slice_get}
 use Rattle.std.specs.Option.{option_map}
+use Rattle.std.proofs.lemmas.List.{length-map}
+use Rattle.std.proofs.lemmas.Option.{slice_get-map}
 use Rattle.hurd_nodes.specs.Shown.{boot_name}
 use Rattle.hurd_ports.proofs.TaskLaws.{one_or_other}
 use Rattle.hurd_machine.proofs.Common.{Name}
@@ -19,11 +21,6 @@ use Rattle.hurd_looks.proofs.PairLaws.{KeepsAt, keep_each}
 
 -- a row at a place
 
-mapped_at : {A B : Type 0} (g : A → B) (xs : List A) (i : ℕ) → slice_get (map g xs) i ≡ option_map g (slice_get xs i)
-mapped_at g [] i = refl
-mapped_at g (x ∷ xs) zero = refl
-mapped_at g (x ∷ xs) (suc i) = mapped_at g xs i
-
 pub listed_at : (rows : List (Name × Row)) (i : ℕ) (n : Name) (x : Name × Row) → option_map (λ (e : Name × Row). e.0) (slice_get rows i) ≡ Some n → slice_get (listed rows) i ≡ Some x → x ≡ (n, row_at rows n)
 listed_at rows i n x is at = go (slice_get rows i) refl
   where
@@ -32,7 +29,7 @@ listed_at rows i n x is at = go (slice_get rows i) refl
     go (Some e) here =
         let name : Some e.0 ≡ Some n = ap (option_map (λ (d : Name × Row). d.0)) (sym here) ∙ is in
         let same : e.0 ≡ n = cc in
-        let row : Some x ≡ Some (e.0, row_at rows e.0) = sym at ∙ mapped_at (λ (d : Name × Row). (d.0, row_at rows d.0)) rows i ∙ ap (option_map (λ (d : Name × Row). (d.0, row_at rows d.0))) here in
+        let row : Some x ≡ Some (e.0, row_at rows e.0) = sym at ∙ slice_get-map (λ (d : Name × Row). (d.0, row_at rows d.0)) rows i ∙ ap (option_map (λ (d : Name × Row). (d.0, row_at rows d.0))) here in
         let one : x ≡ (e.0, row_at rows e.0) = cc in
         one ∙ ap (λ (k : Name). (k, row_at rows k)) same
 
@@ -53,12 +50,8 @@ module _ (x y : Name × Row) (n m : Name) (r s : Row) (is : x ≡ (n, r)) (at : 
       → Meets named_row_renamed x y old next new
   row_both old met mid next new is_met h k = pairs_as _ _ (λ g. (row_of_both g, λ e. (row_name g e, row_seen g e))) old next new (pairs_both _ _ old met mid next new is_met h k)
 
-mapped_length : {A B : Type 0} (g : A → B) (xs : List A) → length (map g xs) ≡ length xs
-mapped_length g [] = refl
-mapped_length g (x ∷ xs) = ap suc (mapped_length g xs)
-
 pub listed_length : (rows : List (Name × Row)) → length (listed rows) ≡ length rows
-listed_length rows = mapped_length (λ (e : Name × Row). (e.0, row_at rows e.0)) rows
+listed_length rows = length-map rows (λ (e : Name × Row). (e.0, row_at rows e.0))
 
 -- there is a row at each place
 pub listed_there : (rows : List (Name × Row)) (i : ℕ) → i < length rows → (x : Name × Row) × (slice_get (listed rows) i ≡ Some x)
