@@ -23,11 +23,24 @@ pub(crate) fn home_of(sites: &Sites, node: NodeName) -> Option<ServerName>
     Some(sites.get(&node)?.home)
 }
 
-/// The index of the seat of a server.
+/// Whether the first seat is that of this server.
+fn is_first<S>(seats: &Seats<S>, name: ServerName) -> bool
+    ensures { result ≡ is_home name (option_map seat_key (slice_get seats.now.entries 0)) }
+{
+    match seats.get_index(0) {
+        Some((first, _)) => name == *first,
+        None => false,
+    }
+}
+
+/// The index of the seat of a server. The first seat is looked at first: where there is one server alone, that is it.
 pub(crate) fn place_of_seat<S>(seats: &Seats<S>, name: ServerName) -> Option<usize>
     ensures is { result ≡ place_by seat_key name seats.now.entries }
     ensures below { IfSome result (λ i. i < length seats.now.entries) }
 {
+    if is_first(seats, name) {
+        return Some(0);
+    }
     seats.get_index_of(&name)
 }
 
