@@ -56,13 +56,13 @@ impl<S: Server> Core<S> {
     }
 
     /// The words of the passive translator of a node of these attributes, which tell whether there are any: else it isn't asked once more.
-    #[tactic(auto, using(crate::proofs::PortLaws::words_told))]
+    #[tactic(auto, using(crate::proofs::NamedLaws::wordless))]
     fn words_told(&self, node: NodeName, attrs: &Attrs) -> Option<&Words>
         requires { option_map attrs_of (node_at (world_of S.meaning self.now) node) ≡ Some attrs.now }
         ensures { option_copied result ≡ passive_of (node_at (world_of S.meaning self.now) node) }
     {
         if attrs.passive {
-            self.nodes.passive(node)
+            self.passive(node)
         } else {
             None
         }
