@@ -1,10 +1,11 @@
 //! The server that some words make, in a box.
 ghost use Rattle.std.specs.Prelude.{◌≡◌, ◌≤◌, length, IfOk};
 ghost use Rattle.std.specs.Option.{option_map};
-ghost use Rattle.hurd_trans_iface.specs.HelloKind.{most_text};
-ghost use Rattle.hurd_trans_iface.specs.Meaning.{Tmpfs as TmpfsKind, begin, new_server};
+ghost use Rattle.hurd_trans_iface.specs.Kinds.Hello.{most_text};
+ghost use Rattle.hurd_trans_iface.specs.Meaning.{begin, new_server};
+ghost use Rattle.hurd_trans_iface.specs.declared.begun.ServerKind.TheVariants.{Tmpfs as TmpfsKind};
 ghost use Rattle.hurd_trans_iface.specs.Sayings.{IsFit, server_said};
-ghost use Rattle.hurd_trans_iface.specs.TmpfsKind.{most_digits};
+ghost use Rattle.hurd_trans_iface.specs.Kinds.Tmpfs.{most_digits};
 ghost use Rattle.hurd_small.specs.FixedKinds.{kind_of};
 ghost use Rattle.hurd_tmpfs.specs.Tree.{new_tmpfs, tree};
 ghost use Rattle.hurd_kinds.specs.Boxes.{box_meaning};

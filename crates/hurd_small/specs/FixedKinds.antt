@@ -1,6 +1,7 @@
 -- Kinds of server of one node of which nothing but options changes.
 use Rattle.std.specs.Prelude.{◌≡◌, Bool, true, false, if◌then◌else◌, Option, Some, None, refl}
-use Rattle.hurd_trans_iface.specs.Meaning.{Meaning, ServerKind, Hello, Null, Zero, Symlink, Firmlink, Magic, counts_opens, keeps_tree}
+use Rattle.hurd_trans_iface.specs.Meaning.{Meaning, ServerKind, counts_opens, keeps_tree}
+use Rattle.hurd_trans_iface.specs.declared.begun.ServerKind.TheVariants.{Hello, Null, Zero, Symlink, Firmlink, Magic}
 use Rattle.hurd_small.specs.declared.fixed_kind.FixedKind.{FixedKind}
 use Rattle.hurd_small.specs.declared.fixed_kind.FixedKind.TheVariants as fixed
 

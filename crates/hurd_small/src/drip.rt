@@ -1,7 +1,8 @@
 //! A stream of a few bytes.
 ghost use Rattle.std.specs.Prelude.{◌≡◌, true, Some, None, IfOk, IfErr, MatchOption};
-ghost use Rattle.hurd_trans_iface.specs.DripKind.{drops_of, says_drops};
-ghost use Rattle.hurd_trans_iface.specs.Meaning.{begin, begin_as, new_server, Drip as DripKind};
+ghost use Rattle.hurd_trans_iface.specs.Kinds.Drip.{drops_of, says_drops};
+ghost use Rattle.hurd_trans_iface.specs.Meaning.{begin, begin_as, new_server};
+ghost use Rattle.hurd_trans_iface.specs.declared.begun.ServerKind.TheVariants.{Drip as DripKind};
 ghost use Rattle.hurd_small.specs.Drip.{drip_meaning};
 
 use crate::drops::Drops;

@@ -1,7 +1,7 @@
 //! What a drip says of itself, and the bytes that it gave.
 ghost use Rattle.std.specs.Prelude.{◌≡◌, ◌≤◌, length, replicate, refl};
-ghost use Rattle.hurd_trans_iface.specs.DripKind.{drop_byte, drops_of, most_drops};
-ghost use Rattle.hurd_trans_iface.specs.Meaning.{Drip as DripKind};
+ghost use Rattle.hurd_trans_iface.specs.Kinds.Drip.{drop_byte, drops_of, most_drops};
+ghost use Rattle.hurd_trans_iface.specs.declared.begun.ServerKind.TheVariants.{Drip as DripKind};
 
 use crate::keeper::Keeper;
 use crate::words::no_options;

@@ -1,6 +1,7 @@
 //! A pipe, under a name.
 ghost use Rattle.std.specs.Prelude.{◌≡◌, [], Some, None, IfOk, IfErr};
-ghost use Rattle.hurd_trans_iface.specs.Meaning.{begin, begin_as, new_server, Fifo as FifoKind};
+ghost use Rattle.hurd_trans_iface.specs.Meaning.{begin, begin_as, new_server};
+ghost use Rattle.hurd_trans_iface.specs.declared.begun.ServerKind.TheVariants.{Fifo as FifoKind};
 ghost use Rattle.hurd_small.specs.Fifo.{fifo_meaning};
 
 use crate::lone::Lone;

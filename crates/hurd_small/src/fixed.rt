@@ -1,8 +1,8 @@
 //! What a server of one node says of itself, where nothing but options changes that.
 ghost use Rattle.std.specs.Prelude.{◌≡◌, ◌≤◌, ℕ, [], length, replicate, Ok};
 ghost use Rattle.hurd_creds.specs.Memory.{Meets};
-ghost use Rattle.hurd_trans_iface.specs.HelloKind.{most_text};
-ghost use Rattle.hurd_trans_iface.specs.SymlinkKind.{is_absolute};
+ghost use Rattle.hurd_trans_iface.specs.Kinds.Hello.{most_text};
+ghost use Rattle.hurd_trans_iface.specs.Kinds.Symlink.{is_absolute};
 ghost use Rattle.hurd_small.specs.FixedKinds.{kind_of, counts_nothing, keeps_nothing};
 
 use crate::contents::new_text;

@@ -1,7 +1,7 @@
 //! A server of one node of which nothing but options changes.
 ghost use Rattle.std.specs.Option.{option_map};
 ghost use Rattle.std.specs.Prelude.{◌≡◌, ◌≤◌, length, Some, None, IfOk, IfErr, IfSome, MatchOption};
-ghost use Rattle.hurd_trans_iface.specs.HelloKind.{most_text};
+ghost use Rattle.hurd_trans_iface.specs.Kinds.Hello.{most_text};
 ghost use Rattle.hurd_trans_iface.specs.Meaning.{begin, new_server};
 ghost use Rattle.hurd_trans_iface.specs.Sayings.{IsFit, server_said};
 ghost use Rattle.hurd_small.specs.Fixed.{fixed_meaning};

@@ -1,6 +1,7 @@
 use Rattle.std.proofs.Common.{ap, sym, ◌∙◌, subst, List, ℕ, codes, ◌∷◌}
-use Rattle.hurd_trans_iface.specs.Meaning.{Union as UnionKind, new_server}
-use Rattle.hurd_trans_iface.specs.UnionKind.{words_of}
+use Rattle.hurd_trans_iface.specs.Meaning.{new_server}
+use Rattle.hurd_trans_iface.specs.declared.begun.ServerKind.TheVariants.{Union as UnionKind}
+use Rattle.hurd_trans_iface.specs.Kinds.Union.{words_of}
 use Rattle.hurd_trans_iface.specs.Words.{IsWithinLimits}
 use Rattle.hurd_trans_iface.proofs.Options.{words_back}
 use Rattle.hurd_union.proofs.union.union_of.Goals as goal

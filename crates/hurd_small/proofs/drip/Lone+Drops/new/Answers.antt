@@ -1,5 +1,5 @@
 use Rattle.std.proofs.Common.{refl}
-use Rattle.hurd_trans_iface.specs.Meaning.{Drip as DripKind}
+use Rattle.hurd_trans_iface.specs.declared.begun.ServerKind.TheVariants.{Drip as DripKind}
 use Rattle.hurd_trans_iface.proofs.Sayings.{begun-other}
 use Rattle.hurd_small.proofs.drip.Lone+Drops.new.Goals as goal
 

@@ -1,5 +1,5 @@
 use Rattle.std.proofs.Common.{refl}
-use Rattle.hurd_trans_iface.specs.Meaning.{Fifo as FifoKind}
+use Rattle.hurd_trans_iface.specs.declared.begun.ServerKind.TheVariants.{Fifo as FifoKind}
 use Rattle.hurd_trans_iface.proofs.Sayings.{begun-other}
 use Rattle.hurd_small.proofs.fifo.Lone+Pipe.new.Goals as goal
 
