@@ -9,7 +9,8 @@ use Rattle.hurd_machine.proofs.Common.{BodyOf, ENOMEM, Errno, Header, IdSets, Me
 use Rattle.hurd_creds.specs.declared.errno.Errno.TheVariants.{ELOOP}
 use Rattle.hurd_trans_iface.specs.Kinds.Firmlink.{firm_text, is_firm}
 use Rattle.hurd_trans_iface.specs.Kinds.Union.{most_branches, text_of, union_text}
-use Rattle.hurd_trans_iface.specs.Meaning.{ServerKind, all_kinds, begin, begin_among, begin_as, behaviour_of, new_server, targets_of}
+use Rattle.hurd_trans_iface.specs.Meaning.{all_kinds, begin, begin_among, begin_as, behaviour_of, new_server, targets_of}
+use Rattle.hurd_trans_iface.specs.declared.begun.ServerKind.{ServerKind}
 use Rattle.hurd_trans_iface.specs.declared.begun.ServerKind.TheVariants.{Firmlink, Union}
 use Rattle.hurd_trans_iface.proofs.Goods.{aimless}
 use Rattle.hurd_trans_iface.proofs.Options.{words_back}

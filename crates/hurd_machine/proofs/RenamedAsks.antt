@@ -4,7 +4,8 @@ use Rattle.std.specs.Prelude.{nat_lt}
 use Rattle.std.specs.Option.{option_map}
 use Rattle.hurd_trans_iface.specs.Answers.{link_in, link_of, make_of, rename_of, rename_to, set_header_of, unlink_of}
 use Rattle.hurd_trans_iface.specs.Behaviour.{Effect, effect_on, reading, resizing, size_left}
-use Rattle.hurd_trans_iface.specs.Meaning.{ServerKind, behaviour_of}
+use Rattle.hurd_trans_iface.specs.Meaning.{behaviour_of}
+use Rattle.hurd_trans_iface.specs.declared.begun.ServerKind.{ServerKind}
 use Rattle.hurd_trans_iface.specs.Nodes.{linked}
 use Rattle.hurd_trans_iface.proofs.Goods.{nameless}
 use Rattle.hurd_nodes.specs.Shown.{info_taken, made_by, readable_by, rename_by, unlink_by}

@@ -16,6 +16,17 @@ pub struct Pipe {
     pub(crate) held: ArrayVec<u8, 4096>,
 }
 
+impl Pipe {
+    /// A pipe that holds nothing.
+    pub(crate) fn empty() -> Pipe
+        ensures { result.held.items ≡ [] }
+    {
+        Pipe {
+            held: ArrayVec::new(),
+        }
+    }
+}
+
 /// Puts bytes behind those that are held.
 fn put(held: &mut ArrayVec<u8, 4096>, bytes: &[u8])
     requires { array_vec_len held.old + length bytes.now ≤ 4096 }

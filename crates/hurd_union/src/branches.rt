@@ -28,6 +28,8 @@ impl Single for Branches {
 
     ghost no_tree = { λ _. refl };
 
+    ghost no_bytes = { λ _. refl };
+
     ghost no_count = { λ _. refl };
 
     fn root(&self) -> Root {

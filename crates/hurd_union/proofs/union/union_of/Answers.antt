@@ -9,7 +9,7 @@ use Rattle.hurd_union.proofs.union.union_of.Goals as goal
 pub invariant_of-unnamed : goal.invariant_of-unnamed
 invariant_of-unnamed c = record {
   same = c.in_ok-copies.ensures.is ∙ sym (words_back c.args.paths.now) ∙ ap words_of (sym c.in_ok-text.ensures);
-  short = subst (λ (ps : List (List ℕ)). IsWithinLimits (codes "/hurd/union" ∷ ps)) (sym c.in_ok-copies.ensures.is) c.requires;
+  short = subst (λ (ps : List (List ℕ)). IsWithinLimits (codes "/hurd/union" ∷ ps)) (words_back c.args.paths.now ∙ sym c.in_ok-copies.ensures.is) c.requires;
 }
 
 pub returns : goal.returns
