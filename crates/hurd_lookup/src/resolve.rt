@@ -2,7 +2,7 @@
 ghost use Rattle.std.specs.Prelude.{◌≡◌, ◌<◌, [], ◌∷◌, List, Result, IfSome, IsOk, OnOk, length};
 ghost use Rattle.hurd_creds.specs.declared.name.Name.{Name};
 ghost use Rattle.hurd_creds.specs.declared.errno.Errno.{Errno as Refusal};
-ghost use Rattle.hurd_trans_iface.specs.SymlinkKind.{is_absolute};
+ghost use Rattle.hurd_trans_iface.specs.Kinds.Symlink.{is_absolute};
 ghost use Rattle.hurd_ports.specs.Limits.{most_parents};
 ghost use Rattle.hurd_ports.specs.declared.parents.Parent.{Parent};
 ghost use Rattle.hurd_machine.specs.World.{World};
