@@ -1,7 +1,7 @@
 //! The files that are asked for.
 use crate::shown::shown;
 use crate::words::{Asked, TROUBLE, trouble};
-use hurd_program::{Request, perform, perform_pair};
+use hurd_program::{Request, TextSort, perform, perform_pair, perform_sample, perform_vectors};
 use hurd_terminal::{Input, Output};
 use std::alloc::{AllocError, Global};
 use std::fs::File;
@@ -34,6 +34,21 @@ fn serve_from<R: Read + Drop>(rt: &HostRuntime, request: &Request, name: &[u8], 
         &mut output,
         &mut errors,
     )
+}
+
+/// Prints as vectors the list that a reader gives; answers the exit status.
+fn tell_vectors<R: Read + Drop>(rt: &HostRuntime, name: &[u8], reader: R) -> u8 {
+    let mut input = Input::new(reader);
+    let mut output = Output::new(io::writer(rt));
+    let mut errors = Output::new(rt.stderr());
+    perform_vectors(rt.alloc(), name, &mut input, &mut output, &mut errors)
+}
+
+/// Prints a random text; answers the exit status.
+fn give_sample(rt: &HostRuntime, sort: TextSort, seed: u64, count: u64) -> u8 {
+    let mut output = Output::new(io::writer(rt));
+    let mut errors = Output::new(rt.stderr());
+    perform_sample(rt.alloc(), sort, seed, count, &mut output, &mut errors)
 }
 
 /// Compares two scripts that two readers give; answers the exit status.
@@ -100,6 +115,18 @@ fn serve_one(rt: &HostRuntime, request: &Request, file: &str, name: &[u8]) -> u8
     }
 }
 
+/// Prints the list of a file as vectors; answers the exit status.
+fn vectors_of(rt: &HostRuntime, file: &str, name: &[u8]) -> u8 {
+    if file == "-" {
+        await_text(rt);
+        return tell_vectors(rt, name, rt.reader());
+    }
+    match File::open(rt, file) {
+        Ok(opened) => tell_vectors(rt, name, opened),
+        Err(error) => unopened(rt, name, error.kind()),
+    }
+}
+
 /// Compares a script that a reader gives with that of a second file; answers the exit status.
 fn tell_second<R: Read + Drop>(
     rt: &HostRuntime,
@@ -143,6 +170,11 @@ pub fn serve(rt: &HostRuntime, asked: &Asked) -> u8 {
             Ok(name) => serve_one(rt, request, file.as_str(), name.as_slice()),
             Err(_) => trouble(rt, b"hurd: out of memory\n"),
         },
+        Asked::Vectors { file } => match name_of(rt.alloc(), file.as_str()) {
+            Ok(name) => vectors_of(rt, file.as_str(), name.as_slice()),
+            Err(_) => trouble(rt, b"hurd: out of memory\n"),
+        },
+        Asked::Sample { sort, seed, count } => give_sample(rt, *sort, *seed, *count),
         Asked::Pair { who, one, two } => {
             let (Ok(first), Ok(second)) = (
                 name_of(rt.alloc(), one.as_str()),

@@ -18,12 +18,54 @@ pub enum Asked {
         request: Request,
         file: String,
     },
+    /// A list as vectors.
+    Vectors {
+        file: String,
+    },
     /// Whether these are told the same by two scripts.
     Pair {
         who: String,
         one: String,
         two: String,
     },
+    /// A random text of a sort.
+    Sample {
+        sort: TextSort,
+        seed: u64,
+        count: u64,
+    },
+}
+
+/// Why nothing is asked.
+#[derive(Clone, Copy, Debug)]
+pub enum Unasked {
+    /// Vectors are asked for, and not of a list.
+    NoList,
+    /// A seed is no number that one can be.
+    Seed,
+    /// A count is none.
+    Count,
+    Memory,
+}
+
+impl From<AllocError> for Unasked {
+    fn from(_error: AllocError) -> Unasked {
+        Unasked::Memory
+    }
+}
+
+impl Unasked {
+    /// What is said of it.
+    fn line(self) -> &'static [u8] {
+        match self {
+            Unasked::NoList => {
+                b"hurd: vectors are made of a list of calls: its name ends with .calls, or --calls says that it is one\n"
+            }
+            Unasked::Seed => b"hurd: SEED is a number, 0 to 18446744073709551615\n",
+            Unasked::Count => b"hurd: COUNT is a number, 0 to 18446744073709551615\n",
+            Unasked::Memory => b"hurd: out of memory\n",
+        }
+    }
 }
 
 /// The text of a word; nothing where it isn't there. An error is want of memory.
@@ -42,26 +84,66 @@ fn named_by(alloc: Global, matches: &ArgMatches<'_>) -> Result<Option<String>, A
     }
 }
 
-/// What is asked by a verb and its words. An error is want of memory.
-fn asked_by(alloc: Global, verb: &str, matches: &ArgMatches<'_>) -> Result<Asked, AllocError> {
-    if verb == "tell" {
-        return Ok(Asked::Pair {
+/// What is asked by a verb and its words.
+fn asked_by(alloc: Global, verb: &str, matches: &ArgMatches<'_>) -> Result<Asked, Unasked> {
+    match verb {
+        "tell" => Ok(Asked::Pair {
             who: text_of(alloc, matches, "WHO")?,
             one: text_of(alloc, matches, "ONE")?,
             two: text_of(alloc, matches, "TWO")?,
-        });
+        }),
+        "sample" => sample_of(matches),
+        "run" if matches.get_flag("json") => vectors_of(alloc, matches),
+        _ => Ok(request_of(alloc, verb, matches)?),
     }
-    request_of(alloc, verb, matches)
+}
+
+/// How many commands or calls a sample has where it isn't said.
+const FEW: &str = "20";
+
+/// A random text that is asked for.
+fn sample_of(matches: &ArgMatches<'_>) -> Result<Asked, Unasked> {
+    let sort = if matches.get_flag("calls") {
+        TextSort::Calls
+    } else {
+        TextSort::Script
+    };
+    let Some(seed) = number_of(matches.get_str("SEED")) else {
+        return Err(Unasked::Seed);
+    };
+    let Some(count) = number_of(matches.get_str("COUNT").or(Some(FEW))) else {
+        return Err(Unasked::Count);
+    };
+    Ok(Asked::Sample { sort, seed, count })
+}
+
+/// The number that a word says, if it is one.
+fn number_of(word: Option<&str>) -> Option<u64> {
+    word?.parse().ok()
+}
+
+/// A list that is asked for as vectors.
+fn vectors_of(alloc: Global, matches: &ArgMatches<'_>) -> Result<Asked, Unasked> {
+    let file = text_of(alloc, matches, "FILE")?;
+    match sort_of(matches, &file) {
+        TextSort::Calls => Ok(Asked::Vectors { file }),
+        TextSort::Script => Err(Unasked::NoList),
+    }
+}
+
+/// What sort of text a file has, by its name and the flags.
+fn sort_of(matches: &ArgMatches<'_>, file: &String) -> TextSort {
+    if matches.get_flag("calls") || file.as_str().ends_with(".calls") {
+        TextSort::Calls
+    } else {
+        TextSort::Script
+    }
 }
 
 /// The same of a verb for one file. An error is want of memory.
 fn request_of(alloc: Global, verb: &str, matches: &ArgMatches<'_>) -> Result<Asked, AllocError> {
     let file = text_of(alloc, matches, "FILE")?;
-    let sort = if matches.get_flag("calls") || file.as_str().ends_with(".calls") {
-        TextSort::Calls
-    } else {
-        TextSort::Script
-    };
+    let sort = sort_of(matches, &file);
     let verb = match verb {
         "learns" => Verb::Learns {
             who: text_of(alloc, matches, "WHO")?,
@@ -131,7 +213,7 @@ fn parsed(rt: &HostRuntime, words: &[String]) -> Result<Asked, u8> {
         Ok(matches) => match matches.subcommand() {
             Some((verb, found)) => match asked_by(alloc, verb, found) {
                 Ok(asked) => Ok(asked),
-                Err(_) => Err(trouble(rt, b"hurd: out of memory\n")),
+                Err(why) => Err(trouble(rt, why.line())),
             },
             None => Err(TROUBLE),
         },

@@ -7,7 +7,11 @@
 mod pairing;
 mod performing;
 mod request;
+mod sampling;
+mod vectors;
 
 pub use pairing::perform_pair;
 pub use performing::perform;
 pub use request::{Request, TextSort, Verb};
+pub use sampling::{SampleTrouble, perform_sample};
+pub use vectors::perform_vectors;
