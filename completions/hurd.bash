@@ -4,10 +4,11 @@
 # What a verb takes, into `operands` and `options`: FILE is a file, VERB a verb, and nothing is known of WHO.
 _hurd_takes() {
     case $1 in
-        run) operands=(FILE) options=(--calls -h --help) ;;
+        run) operands=(FILE) options=(--calls --json -h --help) ;;
         learns | see) operands=(WHO FILE) options=(--calls -h --help) ;;
         draw) operands=(FILE) options=(--as --calls -h --help) ;;
         tell) operands=(WHO FILE FILE) options=(-h --help) ;;
+        sample) operands=() options=(--calls -h --help) ;;
         help) operands=(VERB) options=() ;;
         *) operands=() options=() ;;
     esac
@@ -15,7 +16,7 @@ _hurd_takes() {
 
 # Completes a word.
 _hurd() {
-    local word=${COMP_WORDS[COMP_CWORD]} verbs=(run learns see draw tell help) operands options at place=0 is_behind=
+    local word=${COMP_WORDS[COMP_CWORD]} verbs=(run learns see draw tell sample help) operands options at place=0 is_behind=
     COMPREPLY=()
     if [ "$COMP_CWORD" = 1 ]; then
         operands=(VERB) options=(-h --help -V --version)
