@@ -1,11 +1,11 @@
 -- The line of a command that was drawn is good.
-use Rattle.std.proofs.Common.{ℕ, ◌≡◌, ◌×◌, ◌++◌, ◌∷◌, ◌&&◌, ◌||◌, [], if◌then◌else◌, List, Option, Some, None, Bool, true, false, not, refl, sym, ◌∙◌, ap, append_assoc, append-nil, codes, filter, filter_map, is_none, map, nat_eq}
+use Rattle.std.proofs.Common.{ℕ, ◌≡◌, ◌++◌, ◌∷◌, ◌&&◌, ◌||◌, [], if◌then◌else◌, List, Option, Some, None, Bool, true, false, not, refl, sym, ◌∙◌, ap, append_assoc, append-nil, codes, filter, filter_map, is_none, map, nat_eq}
 use Rattle.std.specs.List.{All, list_any, slice_split}
 use Rattle.std.proofs.lemmas.List.Elements.{All-append, All-cons, All-nil, filter_map-append}
 use Rattle.std.proofs.lemmas.List.Splits.{slice_split_at, slice_split_none}
 use Rattle.hurd_words.specs.Lines.{is_skipped}
 use Rattle.hurd_words.specs.Words.{has_bytes, has_hidden_byte, is_bad_word, text_after, text_of, words_of, written_words}
-use Rattle.hurd_words.specs.Users.{begins_with, declared_name, names_before, task_of}
+use Rattle.hurd_words.specs.Users.{begins_with, declared_name, task_of}
 use Rattle.hurd_script.specs.Commands.{command_at, command_from, verb_of}
 use Rattle.hurd_script.specs.Script.{is_bad_line}
 use Rattle.hurd_script.specs.declared.command.Verb.{Verb}
@@ -48,6 +48,10 @@ unskipped Carol rest = refl
 -- those of a sample, root first
 abbrev pub sample_names : List (List ℕ)
 sample_names = codes "root" ∷ codes "alice" ∷ codes "bob" ∷ codes "carol" ∷ []
+
+-- these lines have declared the three
+abbrev pub AreDeclared : List (List ℕ) → Type 0
+AreDeclared earlier = filter_map declared_name earlier ≡ codes "alice" ∷ codes "bob" ∷ codes "carol" ∷ []
 
 known : (u : User) → is_none (task_of sample_names (user_word u)) ≡ false
 known Root = refl
@@ -109,7 +113,7 @@ verb_known Fsysopts = (refl, refl)
 
 -- a line of these words
 abbrev pub line_of : User → Verb → List (List ℕ) → List ℕ
-line_of u v ws = user_word u ++ 32 ∷ verb_word v ++ spaced ws
+line_of u v ws = user_word u ++ (32 ∷ (verb_word v ++ spaced ws))
 
 -- words behind spaces are cut there again
 cut : (x : List ℕ) (ws : List (List ℕ)) → NoByte 32 x → slice_split (λ b. nat_eq b 32) (x ++ spaced ws) ≡ x ∷ map written ws
@@ -156,25 +160,24 @@ line_words : (u : User) (v : Verb) (ws : List (List ℕ)) → words_of (line_of 
 line_words u v ws = ap (filter_map text_of) (line_written u v ws) ∙ rw (user_text u, verb_text v) refl
 
 -- behind the users of a sample a line is good, and declares nobody
-pub line_good : (earlier : List (List ℕ)) (u : User) (v : Verb) (ws : List (List ℕ)) → names_before earlier ≡ sample_names → is_bad_line earlier (line_of u v ws) ≡ false
+pub line_good : (earlier : List (List ℕ)) (u : User) (v : Verb) (ws : List (List ℕ)) → AreDeclared earlier → is_bad_line earlier (line_of u v ws) ≡ false
 line_good earlier u v ws names =
-    rw (unskipped u (32 ∷ verb_word v ++ spaced ws), line_words_good u v ws, line_words u v ws, no_user_line u (verb_word v ∷ filter_map text_of (kept ws)), names, known u, (verb_known v).1) refl
+    rw (unskipped u (32 ∷ (verb_word v ++ spaced ws)), line_words_good u v ws, line_words u v ws, no_user_line u (verb_word v ∷ filter_map text_of (kept ws)), names, known u, (verb_known v).1) refl
 
 pub line_declares : (u : User) (v : Verb) (ws : List (List ℕ)) → declared_name (line_of u v ws) ≡ None
 line_declares u v ws =
-    rw (unskipped u (32 ∷ verb_word v ++ spaced ws), line_words u v ws, no_user_line u (verb_word v ∷ filter_map text_of (kept ws))) refl
+    rw (unskipped u (32 ∷ (verb_word v ++ spaced ws)), line_words u v ws, no_user_line u (verb_word v ∷ filter_map text_of (kept ws))) refl
 
-pub names_stay : (earlier : List (List ℕ)) (u : User) (v : Verb) (ws : List (List ℕ)) → names_before earlier ≡ sample_names
-    → names_before (earlier ++ line_of u v ws ∷ []) ≡ sample_names
+pub names_stay : (earlier : List (List ℕ)) (u : User) (v : Verb) (ws : List (List ℕ)) → AreDeclared earlier
+    → AreDeclared (earlier ++ line_of u v ws ∷ [])
 names_stay earlier u v ws names =
-    ap (λ (more : List (List ℕ)). codes "root" ∷ more) (filter_map-append declared_name earlier (line_of u v ws ∷ [])
-    ∙ (rw (line_declares u v ws) (append-nil (filter_map declared_name earlier)))) ∙ names
+    filter_map-append declared_name earlier (line_of u v ws ∷ []) ∙ (rw (line_declares u v ws) (append-nil (filter_map declared_name earlier)) ∙ names)
 
 -- the line is a command
-pub line_command : (u : User) (v : Verb) (ws : List (List ℕ)) (earlier : List (List ℕ)) → names_before earlier ≡ sample_names
+pub line_command : (u : User) (v : Verb) (ws : List (List ℕ)) (earlier : List (List ℕ)) → AreDeclared earlier
     → is_none (command_at (record { earlier = earlier; line = line_of u v ws })) ≡ false
 line_command u v ws earlier names =
-    rw (unskipped u (32 ∷ verb_word v ++ spaced ws), line_words u v ws, no_user_line u (verb_word v ∷ filter_map text_of (kept ws)), names, (verb_known v).1)
+    rw (unskipped u (32 ∷ (verb_word v ++ spaced ws)), line_words u v ws, no_user_line u (verb_word v ∷ filter_map text_of (kept ws)), names, (verb_known v).1)
     (command_there (task_of sample_names (user_word u)) v _ _ (known u))
 
 -- no newline stands in a line
@@ -186,6 +189,6 @@ spaced_whole (w ∷ ws) =
 
 pub line_whole : (u : User) (v : Verb) (ws : List (List ℕ)) → NoByte 10 (line_of u v ws)
 line_whole u v ws =
-    All-append (λ b. nat_eq b 10 ≡ false) (user_word u) (32 ∷ verb_word v ++ spaced ws) (not_hidden 10 refl (user_word u) (user_visible u))
+    All-append (λ b. nat_eq b 10 ≡ false) (user_word u) (32 ∷ (verb_word v ++ spaced ws)) (not_hidden 10 refl (user_word u) (user_visible u))
     (All-cons (λ b. nat_eq b 10 ≡ false) 32 (verb_word v ++ spaced ws) refl
     (All-append (λ b. nat_eq b 10 ≡ false) (verb_word v) (spaced ws) (not_hidden 10 refl (verb_word v) (verb_visible v)) (spaced_whole ws)))

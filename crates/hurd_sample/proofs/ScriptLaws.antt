@@ -1,17 +1,21 @@
 -- The script of drawn commands is good, and has these commands.
 use Rattle.std.proofs.Common.{ℕ, suc, arith, ◌≡◌, ◌≤◌, ◌+◌, ◌++◌, ◌∷◌, [], List, Option, Some, None, Bool, true, false, refl, sym, ◌∙◌, ap, append_assoc, codes, filter_map, is_none, length, map, nat_eq, string_bytes}
 use Rattle.std.specs.List.{cons_option, position_from}
-use Rattle.std.specs.Prelude.{nat_lt, if◌then◌else◌}
+use Rattle.std.specs.FinSet as set
+use Rattle.std.specs.Ordering.{nat_cmp}
+use Rattle.std.specs.Prelude.{nat_le, if◌then◌else◌}
+use Rattle.std.proofs.lemmas.Bool.{le-leb, le-ltb}
 use Rattle.std.proofs.lemmas.List.Splits.{slice_split_at}
+use Rattle.hurd_creds.proofs.IdLaws.{len-listed}
 use Rattle.hurd_creds.specs.Limits.{most_script}
 use Rattle.hurd_words.specs.Lines.{Turn, lines_of, turns_after}
 use Rattle.hurd_words.specs.Words.{text_after}
-use Rattle.hurd_words.specs.Users.{names_before, numbers_of}
+use Rattle.hurd_words.specs.Users.{numbers_of}
 use Rattle.hurd_script.specs.Commands.{CommandLine, command_at}
 use Rattle.hurd_script.specs.Script.{bad, commands_of, first_bad, is_bad_line}
 use Rattle.hurd_sample.specs.Written.{command_line, commands_text, script_text}
 use Rattle.hurd_sample.specs.declared.command.Drawn.{Drawn}
-use Rattle.hurd_sample.proofs.LineLaws.{line_command, line_good, line_whole, names_stay, sample_names}
+use Rattle.hurd_sample.proofs.LineLaws.{line_command, line_good, line_whole, names_stay, AreDeclared}
 
 -- the lines of commands: behind the last newline stands an empty one
 lines : List Drawn → List (List ℕ)
@@ -29,7 +33,7 @@ lines-are (c ∷ cs) =
 abbrev turn_test : Turn → Bool
 turn_test turn = is_bad_line turn.earlier turn.line
 
-none_bad : (n : ℕ) (earlier : List (List ℕ)) (cs : List Drawn) → names_before earlier ≡ sample_names → position_from turn_test n (turns_after earlier (lines cs)) ≡ None
+none_bad : (n : ℕ) (earlier : List (List ℕ)) (cs : List Drawn) → AreDeclared earlier → position_from turn_test n (turns_after earlier (lines cs)) ≡ None
 unfolding lines
 none_bad n earlier [] names = refl
 none_bad n earlier (c ∷ cs) names =
@@ -40,7 +44,7 @@ one_more : (o : Option CommandLine) (cs : List CommandLine) → is_none o ≡ fa
 one_more None cs h = absurd (cc)
 one_more (Some c) cs h = refl
 
-all_commands : (earlier : List (List ℕ)) (cs : List Drawn) → names_before earlier ≡ sample_names → length (filter_map command_at (turns_after earlier (lines cs))) ≡ length cs
+all_commands : (earlier : List (List ℕ)) (cs : List Drawn) → AreDeclared earlier → length (filter_map command_at (turns_after earlier (lines cs))) ≡ length cs
 unfolding lines
 all_commands earlier [] names = refl
 all_commands earlier (c ∷ cs) names =
@@ -60,21 +64,25 @@ carol_line = codes "user carol 1002 1002"
 abbrev user_three : List (List ℕ)
 user_three = alice_line ∷ bob_line ∷ carol_line ∷ []
 
-three_names : names_before user_three ≡ sample_names
+three_names : AreDeclared user_three
 unfolding text_after
 three_names = refl
 
+-- so few ids are not too many
+few : (ids : List ℕ) → length ids ≤ 32 → nat_le (set.len (set.from_list {R = nat_cmp} ids)) 32 ≡ true
+few ids h = le-leb _ _ (omega (arith, len-listed ids))
+
 alice_good : is_bad_line [] alice_line ≡ false
 unfolding text_after numbers_of
-alice_good = refl
+alice_good = rw (few (1000 ∷ []) (omega arith), few (1000 ∷ 100 ∷ []) (omega arith)) refl
 
 bob_good : is_bad_line (alice_line ∷ []) bob_line ≡ false
 unfolding text_after numbers_of
-bob_good = refl
+bob_good = rw (few (1001 ∷ []) (omega arith), few (1001 ∷ 100 ∷ []) (omega arith)) refl
 
 carol_good : is_bad_line (alice_line ∷ bob_line ∷ []) carol_line ≡ false
 unfolding text_after numbers_of
-carol_good = refl
+carol_good = rw (few (1002 ∷ []) (omega arith)) refl
 
 three_no_commands : (ls : List (List ℕ)) → filter_map command_at (turns_after [] (alice_line ∷ bob_line ∷ carol_line ∷ ls)) ≡ filter_map command_at (turns_after user_three ls)
 unfolding text_after
@@ -88,11 +96,11 @@ script_lines cs =
 script_good : (cs : List Drawn) → first_bad (lines_of (script_text cs)) ≡ None
 script_good cs = ap first_bad (script_lines cs) ∙ rw (alice_good, bob_good, carol_good) (none_bad 4 user_three cs three_names)
 
-short : (n : ℕ) (o : Option ℕ) (b : Bool) → b ≡ false → o ≡ None → (if b then Some 0 else o) ≡ None
-short n o b e f = rw (e, f) refl
+short : (o : Option ℕ) (b : Bool) → b ≡ false → o ≡ None → (if b then Some 0 else o) ≡ None
+short o b e f = rw (e, f) refl
 
-pub good_by_construction : (cs : List Drawn) (text : List ℕ) → text ≡ script_text cs → nat_lt most_script (length text) ≡ false → bad text ≡ None
-good_by_construction cs text is within = short 0 _ _ within (ap (λ (t : List ℕ). first_bad (lines_of t)) is ∙ script_good cs)
+pub good_by_construction : (cs : List Drawn) (text : List ℕ) → text ≡ script_text cs → length text ≤ 1048576 → bad text ≡ None
+good_by_construction cs text is within = short _ _ (le-ltb _ _ within) (ap (λ (t : List ℕ). first_bad (lines_of t)) is ∙ script_good cs)
 
 pub as_many_commands : (cs : List Drawn) (text : List ℕ) → text ≡ script_text cs → length (commands_of text) ≡ length cs
 as_many_commands cs text is =

@@ -1,11 +1,12 @@
 -- Words as a sample writes them are good words of a script.
-use Rattle.std.proofs.Common.{ℕ, ◌≡◌, ◌++◌, ◌∷◌, ◌==◌, ◌&&◌, ◌||◌, [], if◌then◌else◌, List, Option, Some, None, Bool, true, false, not, refl, sym, ◌∙◌, ap, append_assoc, append-nil, is_none, nat_eq, nat_le, option_map}
+use Rattle.std.proofs.Common.{ℕ, ◌≡◌, ◌<◌, ◌+◌, ◌++◌, ◌∷◌, ◌==◌, ◌&&◌, ◌||◌, [], if◌then◌else◌, List, Option, Some, None, Bool, true, false, not, refl, sym, ◌∙◌, ap, append_assoc, append-nil, drop, get_or, is_none, length, map, nat_eq, nat_le, option_map}
 use Rattle.std.specs.List.{All, list_any}
 use Rattle.std.proofs.lemmas.Bool.{ne_eqb, or_parts}
+use Rattle.std.proofs.lemmas.List.{at_drop_more}
 use Rattle.std.proofs.lemmas.List.Elements.{All-cons, All-nil}
 use Rattle.std.proofs.lemmas.List.Folds.{list_any-append}
 use Rattle.hurd_words.specs.Words.{has_hidden_byte, is_bad_word, is_hidden, onto, text_after, text_of}
-use Rattle.hurd_sample.specs.Written.{written, written_byte}
+use Rattle.hurd_sample.specs.Written.{spaced, written, written_byte}
 
 -- what may stand in a word, whatever follows it
 pub record IsGoodPart (part : List ℕ) : Type 0 where
@@ -83,3 +84,13 @@ not_hidden c h [] v = All-nil (λ b. nat_eq b c ≡ false)
 not_hidden c h (b ∷ bs) v =
     let p = or_parts (is_hidden b) (has_hidden_byte bs) v in
     All-cons (λ x. nat_eq x c ≡ false) b bs (ne_eqb b c (λ e. let clash : true ≡ false = sym h ∙ (ap is_hidden (sym e) ∙ p.0) in absurd (cc))) (not_hidden c h bs p.1)
+
+-- one word more was written
+pub spaced_more : {X : Type 0} (view : X → List ℕ) (xs : List X) (i : ℕ) (x : X) (before after all : List ℕ) → i < length xs → x ≡ get_or xs i x
+    → before ++ spaced (map view (drop i xs)) ≡ all → after ≡ (before ++ 32 ∷ []) ++ written (view x) → after ++ spaced (map view (drop (i + 1) xs)) ≡ all
+spaced_more {X} view xs i x before after all within is so_far e =
+    let rest = spaced (map view (drop (i + 1) xs)) in
+    let step = at_drop_more (λ (ys : List X). spaced (map view ys)) xs i x within ∙ ap (λ (y : X). spaced (map view (y ∷ drop (i + 1) xs))) (sym is) in
+    ap (λ (t : List ℕ). t ++ rest) e
+    ∙ (append_assoc (before ++ 32 ∷ []) (written (view x)) rest
+    ∙ (append_assoc before (32 ∷ []) (written (view x) ++ rest) ∙ (ap (λ (t : List ℕ). before ++ t) (sym step) ∙ so_far)))

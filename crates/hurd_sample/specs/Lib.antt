@@ -1,3 +1,1 @@
 pub mod Written
-pub mod Listed
-pub mod Texts

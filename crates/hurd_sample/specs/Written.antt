@@ -46,15 +46,15 @@ written (b ∷ bs) = written_byte b ++ written bs
 -- words, each behind a space
 abbrev pub spaced : List (List ℕ) → List ℕ
 spaced [] = []
-spaced (word ∷ words) = 32 ∷ written word ++ spaced words
+spaced (word ∷ words) = 32 ∷ (written word ++ spaced words)
 
 -- a command without its newline
 abbrev pub command_line : Drawn → List ℕ
-command_line c = user_word c.user ++ 32 ∷ verb_word c.verb ++ spaced (map string_bytes c.words.items)
+command_line c = user_word c.user ++ (32 ∷ (verb_word c.verb ++ spaced (map string_bytes c.words.items)))
 
 -- a command on a line of its own
 abbrev pub command_text : Drawn → List ℕ
-command_text c = command_line c ++ 10 ∷ []
+command_text c = command_line c ++ (10 ∷ [])
 
 -- commands one behind another
 abbrev pub commands_text : List Drawn → List ℕ

@@ -20,8 +20,10 @@ enum Sort {
     Listing,
     /// A file that is open to be read and written.
     Open,
-    /// A node that is open for nothing.
+    /// A node of the task's own that is open for nothing.
     Node,
+    /// A node of somebody else's, or a right with weaker ids.
+    Weak,
     /// The root of a server.
     Root,
     /// A server that may be controlled.
@@ -55,7 +57,7 @@ pub struct Board {
 impl Board {
     pub fn new(alloc: Global, seed: u64) -> Result<Board, AllocError> {
         let root = Right {
-            sort: Sort::Directory,
+            sort: Sort::Root,
             node: 0,
         };
         let mut holders = Vec::new(alloc);
@@ -81,7 +83,7 @@ impl Board {
     pub fn call(&mut self, alloc: Global, number: u64) -> Result<String, AllocError> {
         match number {
             0 => {
-                self.nodes.add(alloc, "t", 0, true)?;
+                self.nodes.add(alloc, "t", 0, 0, true)?;
                 String::from_str(alloc, "0 dir_mkdir 1 =t 1777")
             }
             1..=4 => {
@@ -105,7 +107,7 @@ impl Board {
         self.task = if self.draws.often(2) {
             NOBODY
         } else {
-            self.draws.below(TASKS)
+            self.draws.one(&[0, 0, 1, 1, 1, 2, 2, 3])
         };
         match self.draws.below(20) {
             0..=3 => self.lookup_call(alloc),
@@ -144,9 +146,26 @@ impl Board {
             }
         }
         if self.draws.often(20) {
-            port = 1 + self.draws.below(9);
+            port = self.draws.one(&[1, 2, 3, 4, 5, 6, 7, 8, 9]);
         }
         (port, right)
+    }
+
+    /// Whether the task may hold a right of this sort; rarely where it doesn't.
+    fn may_hold(&mut self, sort: Sort) -> bool {
+        let holds = match self.holders.get(self.task) {
+            Some(holder) => holder.rights.iter().any(|right| right.sort == sort),
+            None => false,
+        };
+        holds || self.draws.often(10)
+    }
+
+    /// A port of the task's on a directory.
+    fn directory(&mut self) -> (usize, Right) {
+        let sort = self
+            .draws
+            .one(&[Sort::Directory, Sort::Directory, Sort::Listing]);
+        self.port(sort)
     }
 
     /// A port of the task's on any node.
@@ -167,7 +186,10 @@ impl Board {
         let task = self.task;
         let (port, right) = self.any_port();
         match self.draws.below(8) {
-            0 => format!(in alloc; "{task} port_deallocate {port}"),
+            0 => {
+                let port = self.draws.one(&[4, 5, 6, 7, 8, 9, 10, 12, 15]);
+                format!(in alloc; "{task} port_deallocate {port}")
+            }
             1..=2 => self.send(alloc, port, right),
             3..=4 => self.receive(alloc),
             5 => {
@@ -176,7 +198,7 @@ impl Board {
             }
             6 => {
                 let ids = self.ids();
-                self.gain(right.sort, right.node)?;
+                self.gain(Sort::Weak, right.node)?;
                 format!(in alloc; "{task} io_restrict_auth {port} {ids} -")
             }
             _ => {
@@ -230,9 +252,16 @@ impl Board {
     /// Calls on what a port has open.
     fn io_call(&mut self, alloc: Global) -> Result<String, AllocError> {
         let task = self.task;
-        let sort = self.draws.one(&[Sort::Open, Sort::Open, Sort::Root, Sort::Listing]);
+        let sort = self
+            .draws
+            .one(&[Sort::Open, Sort::Open, Sort::Root, Sort::Listing]);
+        if !self.may_hold(sort) {
+            return self.lookup_call(alloc);
+        }
         let (port, _) = self.port(sort);
-        let offset = self.draws.one(&["-1", "-1", "-1", "0", "1", "2", "100", "-2"]);
+        let offset = self
+            .draws
+            .one(&["-1", "-1", "-1", "0", "1", "2", "100", "-2"]);
         match self.draws.below(8) {
             0..=1 => {
                 let amount = self.draws.one(&["1", "3", "99", "700"]);
@@ -301,6 +330,9 @@ impl Board {
     /// Calls on the translators of a node.
     fn translator_call(&mut self, alloc: Global) -> Result<String, AllocError> {
         let task = self.task;
+        if !self.may_hold(Sort::Node) {
+            return self.make(alloc, 3, 1, false);
+        }
         let (port, right) = self.port(Sort::Node);
         match self.draws.below(7) {
             0..=1 => self.set_translator(alloc, port, right.node),
@@ -350,12 +382,7 @@ impl Board {
     }
 
     /// The right to control a server.
-    fn control(
-        &mut self,
-        alloc: Global,
-        port: usize,
-        node: usize,
-    ) -> Result<String, AllocError> {
+    fn control(&mut self, alloc: Global, port: usize, node: usize) -> Result<String, AllocError> {
         let task = self.task;
         self.gain(Sort::Control, node)?;
         format!(in alloc; "{task} file_get_translator_cntl {port}")
@@ -398,7 +425,7 @@ impl Board {
     fn look_up_waiting(&mut self, alloc: Global) -> Result<String, AllocError> {
         let start = self.draws.below(self.nodes.len());
         let node = self.nodes.waiting(start);
-        let (port, right) = self.port(Sort::Directory);
+        let (port, right) = self.directory();
         let node = match node {
             Some(node) => node,
             None => self.nodes.entry(right.node, start),
@@ -409,10 +436,14 @@ impl Board {
     /// Calls by a right to control a server.
     fn controlled_call(&mut self, alloc: Global) -> Result<String, AllocError> {
         let task = self.task;
+        if !self.may_hold(Sort::Control) {
+            let (port, right) = self.port(Sort::Node);
+            return self.set_translator(alloc, port, right.node);
+        }
         let (control, right) = self.port(Sort::Control);
         match self.draws.below(5) {
             0..=1 => {
-                let (dir, _) = self.port(Sort::Directory);
+                let (dir, _) = self.directory();
                 let flags = self.draws.one(&["-", "READ", "READ", "READ,WRITE"]);
                 self.gain(Sort::Root, right.node)?;
                 format!(in alloc; "{task} fsys_getroot {control} {dir} {flags}")
@@ -423,7 +454,12 @@ impl Board {
             }
             3 => format!(in alloc; "{task} fsys_get_options {control}"),
             _ => {
-                let option = self.draws.one(&["--contents=one", "--size=4", "--size=30", "--contents=a\\nb\\n"]);
+                let option = self.draws.one(&[
+                    "--contents=one",
+                    "--size=4",
+                    "--size=30",
+                    "--contents=a\\nb\\n",
+                ]);
                 format!(in alloc; "{task} fsys_set_options {control} ={option}")
             }
         }
@@ -432,7 +468,7 @@ impl Board {
     /// A lookup of what is there, of what is to be made, or of the directory for all.
     fn lookup_call(&mut self, alloc: Global) -> Result<String, AllocError> {
         let task = self.task;
-        let (port, right) = self.port(Sort::Directory);
+        let (port, right) = self.directory();
         match self.draws.below(10) {
             0..=2 => {
                 let plain = self.draws.often(50);
@@ -471,8 +507,13 @@ impl Board {
     ) -> Result<String, AllocError> {
         let task = self.task;
         let name = self.name(alloc)?;
+        let (port, parent) = if parent == 1 || self.nodes.is_own(parent, task) {
+            (port, parent)
+        } else {
+            (3, 1)
+        };
         let node = self.nodes.len();
-        self.nodes.add(alloc, name.as_str(), parent, false)?;
+        self.nodes.add(alloc, name.as_str(), parent, task, false)?;
         if plain {
             self.gain(Sort::Open, node)?;
             return format!(in alloc; "{task} dir_lookup {port} ={name} READ,WRITE,CREATE 644");
@@ -503,26 +544,33 @@ impl Board {
             }
             return format!(in alloc; "{task} dir_lookup {port} ={name} READ 0");
         }
+        let is_own = self.nodes.is_own(node, task);
         if self.draws.often(30) {
-            self.gain(Sort::Node, node)?;
+            let sort = if is_own { Sort::Node } else { Sort::Weak };
+            self.gain(sort, node)?;
             return format!(in alloc; "{task} dir_lookup {port} ={name} NOTRANS 0");
         }
         self.gain(sort, node)?;
-        let flags = if sort == Sort::Open { "READ,WRITE" } else { "READ" };
+        let flags = if sort == Sort::Open && is_own {
+            "READ,WRITE"
+        } else {
+            "READ"
+        };
         format!(in alloc; "{task} dir_lookup {port} ={name} {flags} 0")
     }
 
     /// Calls on entries of a directory.
     fn entry_call(&mut self, alloc: Global) -> Result<String, AllocError> {
         let task = self.task;
-        let (port, right) = self.port(Sort::Directory);
+        let (port, right) = self.directory();
         let start = self.draws.below(self.nodes.len());
         let node = self.nodes.entry(right.node, start);
         let known = self.nodes.name_of(alloc, node)?;
         let name = self.name(alloc)?;
         match self.draws.below(6) {
             0..=1 => {
-                self.nodes.add(alloc, name.as_str(), right.node, true)?;
+                self.nodes
+                    .add(alloc, name.as_str(), right.node, task, true)?;
                 let mode = self.mode();
                 format!(in alloc; "{task} dir_mkdir {port} ={name} {mode}")
             }
@@ -533,7 +581,7 @@ impl Board {
                 format!(in alloc; "{task} dir_link {port} ={name} {file}")
             }
             _ => {
-                let (to, _) = self.port(Sort::Directory);
+                let (to, _) = self.directory();
                 format!(in alloc; "{task} dir_rename {port} ={known} {to} ={name}")
             }
         }
@@ -556,8 +604,7 @@ impl Board {
     }
 
     fn mode(&mut self) -> &'static str {
-        self.draws
-            .one(&["644", "755", "777", "700", "1777", "600", "37777777777"])
+        self.draws.one(&["644", "755", "777", "700", "1777", "600", "37777777777"])
     }
 
     /// The words of a server of one of the ten kinds.

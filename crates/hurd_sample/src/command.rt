@@ -59,12 +59,7 @@ pub struct Drawn {
 
 impl Drawn {
     /// A command with these words.
-    pub fn new(
-        alloc: Global,
-        user: User,
-        verb: Verb,
-        words: &[&str],
-    ) -> Result<Drawn, AllocError> {
+    pub fn new(alloc: Global, user: User, verb: Verb, words: &[&str]) -> Result<Drawn, AllocError> {
         let mut owned = Vec::new(alloc);
         for word in words {
             owned.push(String::from_str(alloc, word)?)?;
@@ -74,6 +69,12 @@ impl Drawn {
             verb,
             words: owned,
         })
+    }
+
+    /// One word more.
+    pub fn with(mut self, word: String) -> Result<Drawn, AllocError> {
+        self.words.push(word)?;
+        Ok(self)
     }
 
     /// Writes the command on a line of its own.

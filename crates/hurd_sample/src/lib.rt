@@ -4,17 +4,17 @@
 //! and count alone, the same on every machine. Who does what is drawn so that most of what a command names is there, and that some
 //! commands are refused.
 //!
-//! A sample is good: its commands are drawn as users, verbs and texts, and only `Drawn::push` writes them, by the escapes of scripts.
+//! A sample is good. Commands of a script are drawn as users, verbs and texts, and only `Drawn::push` writes them, by the escapes of
+//! scripts. A call of a list is a line that the reader of lists takes.
 #![tactic(auto)]
 
 mod board;
 mod command;
 mod draws;
-mod line;
-mod lists;
+mod fault;
 mod nodes;
 mod scene;
 mod scripts;
 
-pub use lists::sample_calls;
-pub use scripts::{SampleFault, sample_script};
+pub use fault::SampleFault;
+pub use scripts::sample_script;

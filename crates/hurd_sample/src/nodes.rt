@@ -1,11 +1,12 @@
 //! The nodes that may be there, as far as a list of calls has made them.
 use std::alloc::{AllocError, Global};
 
-/// A node: its name, the index of its directory, and the words of the server that is active or waits on it.
+/// A node: its name, the index of its directory, who made it, and the words of the server that is active or waits on it.
 #[derive(Drop)]
 pub struct Node {
     pub name: String,
     pub parent: usize,
+    pub maker: usize,
     pub is_directory: bool,
     pub server: &'static str,
     pub waits: bool,
@@ -23,7 +24,7 @@ impl Nodes {
         let mut nodes = Nodes {
             nodes: Vec::new(alloc),
         };
-        nodes.add(alloc, ".", 0, true)?;
+        nodes.add(alloc, ".", 0, 0, true)?;
         Ok(nodes)
     }
 
@@ -41,11 +42,13 @@ impl Nodes {
         alloc: Global,
         name: &str,
         parent: usize,
+        maker: usize,
         is_directory: bool,
     ) -> Result<(), AllocError> {
         self.nodes.push(Node {
             name: String::from_str(alloc, name)?,
             parent,
+            maker,
             is_directory,
             server: "",
             waits: false,
@@ -73,6 +76,14 @@ impl Nodes {
         match self.nodes.get(node) {
             Some(known) => String::from_str(alloc, known.name.as_str()),
             None => String::from_str(alloc, "none"),
+        }
+    }
+
+    /// Whether a task may write in a directory, or owns a node, as far as is known here.
+    pub fn is_own(&self, node: usize, task: usize) -> bool {
+        match self.nodes.get(node) {
+            Some(known) => task == 0 || known.maker == task,
+            None => false,
         }
     }
 

@@ -190,11 +190,11 @@ impl Scene {
             let mode = self
                 .draws
                 .one(&["700", "711", "733", "755", "777", "600", "644", "1777"]);
-            return Drawn::new(alloc, self.user, verb, &[mode, path.as_str()]);
+            return Drawn::new(alloc, self.user, verb, &[mode])?.with(path);
         }
         let owner = self.draws.one(&["1000", "1001", "1002"]);
         let group = self.draws.one(&["100", "100", "1000", "1001"]);
-        Drawn::new(alloc, self.user, verb, &[owner, group, path.as_str()])
+        Drawn::new(alloc, self.user, verb, &[owner, group])?.with(path)
     }
 
     /// `settrans FLAGS NODE [WORD..]`: a server, active or waiting, or none any more.
@@ -208,7 +208,7 @@ impl Scene {
             self.old(alloc)?
         };
         self.keep(alloc, path.as_str())?;
-        let mut drawn = Drawn::new(alloc, self.user, Verb::Settrans, &[flags, path.as_str()])?;
+        let mut drawn = Drawn::new(alloc, self.user, Verb::Settrans, &[flags])?.with(path)?;
         if !(flags == "-g" || flags == "-ag" || flags == "-o" || flags == "-f") {
             self.push_server(alloc, &mut drawn.words)?;
         }
@@ -325,7 +325,8 @@ impl Scene {
         if stays && self.draws.often(65) {
             self.home()
         } else {
-            self.draws.one(&["/tmp", "/home/alice", "/home/bob", "/box"])
+            self.draws
+                .one(&["/tmp", "/home/alice", "/home/bob", "/box"])
         }
     }
 

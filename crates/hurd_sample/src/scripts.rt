@@ -4,6 +4,7 @@ ghost use Rattle.hurd_script.specs.Script.{bad, commands_of};
 ghost use Rattle.hurd_sample.specs.Written.{commands_text, script_text, user_lines};
 
 use crate::command::Drawn;
+use crate::fault::SampleFault;
 use crate::scene::Scene;
 use hurd_creds::MOST_SCRIPT;
 use std::alloc::{AllocError, Global};
@@ -13,25 +14,6 @@ const USERS: &str = "user alice 1000 1000,100\nuser bob 1001 1001,100\nuser caro
 
 /// No command is written in fewer bytes.
 const LEAST_COMMAND: u64 = 8;
-
-/// Why a sample was not made.
-#[derive(Clone, Copy, Debug, PartialEq, Eq)]
-pub enum SampleFault {
-    /// So many have no room in 1,048,576 bytes.
-    TooLong,
-    Memory,
-}
-
-impl From<AllocError> for SampleFault {
-    ghost use Rattle.std.specs.Prelude.{◌≡◌};
-    ghost use Rattle.hurd_sample.specs.declared.scripts.SampleFault.TheVariants.{Memory};
-
-    ghost from_gives = { λ _ e. e ≡ Memory };
-
-    fn from(_error: AllocError) -> SampleFault {
-        SampleFault::Memory
-    }
-}
 
 /// A random script of so many commands, good and the same for the same seed: three users; homes, a directory for all and a box; then
 /// what they do there.
