@@ -1,11 +1,10 @@
-//! Samples: random scripts and random lists of calls, each from a seed.
+//! Samples: random scripts, each from a seed.
 //!
-//! `sample_script` makes a script of so many commands, and `sample_calls` a list of so many calls. A sample is a function of its seed
-//! and count alone, the same on every machine. Who does what is drawn so that most of what a command names is there, and that some
+//! `sample_script` makes a script of so many commands. A sample is a function of its seed and count alone, the same on every machine. Who does what is drawn so that most of what a command names is there, and that some
 //! commands are refused.
 //!
 //! A sample is good. Commands of a script are drawn as users, verbs and texts, and only `Drawn::push` writes them, by the escapes of
-//! scripts. A call of a list is a line that the reader of lists takes.
+//! scripts.
 #![tactic(auto)]
 
 mod board;
