@@ -1,3 +1,4 @@
 pub mod WordLaws
 pub mod LineLaws
 pub mod ScriptLaws
+pub mod ListLaws

@@ -11,9 +11,12 @@ mod board;
 mod command;
 mod draws;
 mod fault;
+mod line;
+mod lists;
 mod nodes;
 mod scene;
 mod scripts;
 
 pub use fault::SampleFault;
+pub use lists::sample_calls;
 pub use scripts::sample_script;
