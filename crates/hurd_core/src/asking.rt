@@ -6,7 +6,7 @@ ghost use Rattle.hurd_creds.specs.Memory.{Meets};
 ghost use Rattle.hurd_trans_iface.specs.Nodes.{attrs_of, passive_of};
 ghost use Rattle.hurd_trans_iface.specs.Answers.{entry_of, names_of};
 ghost use Rattle.hurd_trans_iface.specs.Meaning.{root_of};
-ghost use Rattle.hurd_nodes.specs.Shown.{ServerInfo, are_kin, options_in, header_in, tree_by};
+ghost use Rattle.hurd_nodes.specs.Shown.{ServerInfo, are_kin, options_in, header_in, shown, tree_by};
 ghost use Rattle.hurd_ports.specs.Tables.{ids_at, io_right_of, lent, naming_of, pending_of, room_of};
 ghost use Rattle.hurd_machine.specs.World.{ports_of, active_at, body_at, header_at, home_at, info_at, is_removed, is_server_root, links_at, makes_at, node_at, readable_at, server_at, sets_attrs_at, stream_at, task_at, words_at, targets_at};
 ghost use Rattle.hurd_machine.specs.Handle.{both_asks, port_asks, handle_asks};
@@ -21,9 +21,27 @@ use crate::the_core::Core;
 use crate::to_make::NodeToMake;
 use hurd_creds::{Attrs, Errno, Ids, Kind, NodeName, OpenFlags, ServerName, TaskId};
 use hurd_machine::Handle;
+use hurd_nodes::Nodes;
 use hurd_ports::{IoRight, PendingStart, Right};
 use hurd_trans_iface::{Crossing, Names, Root, Server, Words};
 use std::alloc::Global;
+
+/// The words of the passive translator of a node of these attributes. They tell whether there are any: else it isn't asked.
+#[tactic(auto, using(crate::proofs::NamedLaws::wordless))]
+fn words_told<'a, S: Server>(
+    nodes: &'a Nodes<S>,
+    node: NodeName,
+    attrs: &Attrs,
+) -> Option<&'a Words>
+    requires { option_map attrs_of (fin.get (shown S.meaning nodes.now).nodes node) ≡ Some attrs.now }
+    ensures { option_copied result ≡ passive_of (fin.get (shown S.meaning nodes.entry.now).nodes node) }
+{
+    if attrs.passive {
+        nodes.passive(node)
+    } else {
+        None
+    }
+}
 
 impl<S: Server> Core<S> {
     /// The right to use a node of a task under a number.
@@ -55,19 +73,6 @@ impl<S: Server> Core<S> {
         }
     }
 
-    /// The words of the passive translator of a node of these attributes, which tell whether there are any: else it isn't asked once more.
-    #[tactic(auto, using(crate::proofs::NamedLaws::wordless))]
-    fn words_told(&self, node: NodeName, attrs: &Attrs) -> Option<&Words>
-        requires { option_map attrs_of (node_at (world_of S.meaning self.now) node) ≡ Some attrs.now }
-        ensures { option_copied result ≡ passive_of (node_at (world_of S.meaning self.now) node) }
-    {
-        if attrs.passive {
-            self.passive(node)
-        } else {
-            None
-        }
-    }
-
     /// The right of a task under a number, with the attributes of its node.
     ///
     /// Errors, in order: `ESRCH` no such task, `EBADF` no such port, or one that controls a server, `EDIED` no such node.
@@ -80,7 +85,7 @@ impl<S: Server> Core<S> {
         let Some(attrs) = self.nodes.attrs(right.node) else {
             return Err(Errno::EDIED);
         };
-        let words = self.words_told(right.node, &attrs);
+        let words = words_told(&self.nodes, right.node, &attrs);
         Ok(PortNode {
             right,
             attrs,
@@ -113,12 +118,12 @@ impl<S: Server> Core<S> {
         let first = PortNode {
             right,
             attrs,
-            words: self.words_told(right.node, &attrs),
+            words: words_told(&self.nodes, right.node, &attrs),
         };
         let second = PortNode {
             right: second,
             attrs: others,
-            words: self.words_told(second.node, &others),
+            words: words_told(&self.nodes, second.node, &others),
         };
         Ok((first, second))
     }
