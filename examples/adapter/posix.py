@@ -1,14 +1,14 @@
 #!/usr/bin/env python3
 """Runs scripts as system calls of Linux, and compares them with what `hurd run` prints.
 
-    examples/adapter/posix.py [--hurd PROGRAM] [--show N] SCRIPT..
+    examples/adapter/posix.py [--hurd PROGRAM] [--show N] [--leave-out] SCRIPT..
 
 Each script runs on a fresh tmpfs, each command in a process of its own, with the ids of its user and umask 0. An answer is what a command prints, and the name of
 the error that refuses it. Where an answer differs, the difference is of a class that docs/COMPARED.md names, or of none: then the status is 1. Where both refuse,
 the two trees are still alike, and the script goes on; else it ends there, and so does one by whose difference the trees are no longer alike.
 
-Scripts with translators, and with users without ids, are passed over: Linux has neither. It wants root, to mount and to be other users; else it says so, and
-status is 77. It is an example of an adapter: docs/VECTORS.md, *An adapter in five steps*.
+Scripts with translators, and with users without ids, are passed over: Linux has neither. With --leave-out commands for translators are left out of a script on both
+sides instead. It wants root, to mount and to be other users; else it says so, and status is 77. It is an example of an adapter: docs/VECTORS.md, *An adapter in five steps*.
 """
 import argparse
 import collections
@@ -24,7 +24,6 @@ NOT_RUN = 77
 SERVERS = ("settrans", "showtrans", "fsysopts")
 ESCAPES = {"s": " ", "n": "\n", "\\": "\\"}
 KINDS = {stat.S_IFREG: "-", stat.S_IFDIR: "d"}
-# What is changed in the tree by a command that is done: the two trees are then alike only where both do it.
 READS = 65536
 MOST_READS = 16
 
@@ -63,19 +62,13 @@ def users_of(lines):
 def parts_of(transcript, commands):
     """What a transcript says of each command, behind its first line."""
     parts, left = [], transcript.split(b"\n")
-    for words in commands:
+    heads = [words[0].encode() + b"$ " + " ".join(words[1:]).encode("latin-1") for words in commands]
+    for following in [*heads[1:], None]:
         left = left[1:]
-        head = words[0].encode() + b"$ "
-        end = next((i for i, line in enumerate(left) if is_head(line, head, commands)), len(left))
+        end = left.index(following) if following in left else len(left)
         parts.append(b"\n".join(left[:end]).strip(b"\n"))
         left = left[end:]
     return parts
-
-
-def is_head(line, _head, commands):
-    """Whether a line begins a command's part: no output of the commands here has `NAME$ ` at a line's beginning."""
-    name, mark, _ = line.partition(b"$ ")
-    return bool(mark) and any(name == words[0].encode() for words in commands)
 
 
 # A command, as system calls. The process has the tree as its root.
@@ -252,19 +245,26 @@ class Comparison:
         return (refusal(here) is not None and refusal(there) is not None) or (both_told and command in ("ls", "cat"))
 
 
+def is_for_servers(words):
+    """Whether a line asks for something that Linux hasn't: translators."""
+    return words[0] != "user" and words[1] in SERVERS
+
+
 def runs_elsewhere(lines, users):
     """Whether Linux has all that a script asks for."""
-    return all(words[1] not in SERVERS for words in lines if words[0] != "user") and all(uids and gids for uids, gids in users.values())
+    return not any(map(is_for_servers, lines)) and all(uids and gids for uids, gids in users.values())
 
 
-def run(hurd, script, tree, comparison):
+def run(hurd, script, tree, comparison, leaves_out):
     """Runs a script here and there, command by command."""
     with open(script, "rb") as file:
-        text = file.read()
-    lines = lines_of(text)
+        lines = lines_of(file.read())
+    if leaves_out:
+        lines = [words for words in lines if not is_for_servers(words)]
     users = users_of(lines)
     commands = [words for words in lines if words[0] != "user"]
-    ran = subprocess.run([hurd, "run", script], stdout=subprocess.PIPE, stderr=subprocess.DEVNULL, check=False)
+    text = "".join(" ".join(words) + "\n" for words in lines).encode("latin-1")
+    ran = subprocess.run([hurd, "run", "-"], input=text, stdout=subprocess.PIPE, stderr=subprocess.DEVNULL, check=False)
     if ran.returncode or not runs_elsewhere(lines, users):
         comparison.passed_over += 1
         return
@@ -280,12 +280,12 @@ def run(hurd, script, tree, comparison):
             return
 
 
-def on_a_tree(hurd, script, comparison):
+def on_a_tree(hurd, script, comparison, leaves_out):
     """The same on a fresh tmpfs."""
     with tempfile.TemporaryDirectory(prefix="hurd-adapter-") as tree:
         subprocess.run(["mount", "-t", "tmpfs", "-o", "mode=755", "none", tree], check=True)
         try:
-            run(hurd, script, tree, comparison)
+            run(hurd, script, tree, comparison, leaves_out)
         finally:
             subprocess.run(["umount", tree], check=True)
 
@@ -294,6 +294,7 @@ def main():
     words = argparse.ArgumentParser(description=__doc__.split("\n")[0])
     words.add_argument("--hurd", default=os.path.join(TOP, "crates", "hurd", "out", "hurd"))
     words.add_argument("--show", type=int, default=10, help="how many differences of no class are shown")
+    words.add_argument("--leave-out", action="store_true", help="commands for translators are left out, here and there")
     words.add_argument("scripts", nargs="+")
     asked = words.parse_args()
     if os.geteuid() != 0:
@@ -301,7 +302,7 @@ def main():
         return NOT_RUN
     comparison = Comparison()
     for script in asked.scripts:
-        on_a_tree(os.path.abspath(asked.hurd), script, comparison)
+        on_a_tree(os.path.abspath(asked.hurd), script, comparison, asked.leave_out)
     with open("/proc/sys/fs/protected_hardlinks", encoding="ascii") as file:
         print(f"fs.protected_hardlinks = {file.read().strip()}")
     print(f"{comparison.scripts} scripts run, {comparison.passed_over} passed over; {comparison.same} answers the same")

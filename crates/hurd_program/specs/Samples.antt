@@ -9,7 +9,7 @@ use Rattle.hurd_terminal.specs.declared.print.Output.{Output}
 use Rattle.hurd_program.specs.declared.request.TextSort.{TextSort}
 use Rattle.hurd_program.specs.declared.request.TextSort.TheVariants.{Script, Calls}
 use Rattle.hurd_program.specs.declared.sampling.SampleTrouble.{SampleTrouble}
-use Rattle.hurd_program.specs.declared.sampling.SampleTrouble.TheVariants.{TooLong, Memory, Write}
+use Rattle.hurd_program.specs.declared.sampling.SampleTrouble.TheVariants.{TooLong, Memory, Write, Unread}
 
 -- a good text of a sort, of so many commands or calls
 abbrev pub IsSample : TextSort → ℕ → List ℕ → Type 0
@@ -28,6 +28,7 @@ sample_line (Ok _) = []
 sample_line (Err TooLong) = codes "hurd: so many have no room in 1048576 bytes\n"
 sample_line (Err Memory) = codes "hurd: out of memory\n"
 sample_line (Err Write) = codes "hurd: cannot write\n"
+sample_line (Err Unread) = codes "hurd: no such sample can be drawn\n"
 
 -- the exit status
 abbrev pub sample_status : Result (Unit {0}) SampleTrouble → ℕ

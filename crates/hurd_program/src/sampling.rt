@@ -18,11 +18,13 @@ pub enum SampleTrouble {
     Memory,
     /// The output can't be written.
     Write,
+    /// What was drawn is no text of the sort.
+    Unread,
 }
 
 /// A random text of a sort.
 ///
-/// Errors, in order: `TooLong`; `Memory`.
+/// Errors: `TooLong`, `Memory`, `Unread`.
 fn sample(alloc: Global, sort: TextSort, seed: u64, count: u64) -> Result<Vec<u8>, SampleFault>
     ensures { IfOk result (λ text. IsSample sort count text.items) }
 {
@@ -47,6 +49,7 @@ fn print_sample<W: Write>(
         Ok(text) => text,
         Err(SampleFault::TooLong) => return Err(SampleTrouble::TooLong),
         Err(SampleFault::Memory) => return Err(SampleTrouble::Memory),
+        Err(SampleFault::Unread) => return Err(SampleTrouble::Unread),
     };
     match output.print(text.as_slice()) {
         Ok(()) => Ok(()),
@@ -62,6 +65,7 @@ fn line_of(trouble: SampleTrouble) -> &'static [u8]
         SampleTrouble::TooLong => b"hurd: so many have no room in 1048576 bytes\n",
         SampleTrouble::Memory => b"hurd: out of memory\n",
         SampleTrouble::Write => b"hurd: cannot write\n",
+        SampleTrouble::Unread => b"hurd: no such sample can be drawn\n",
     }
 }
 

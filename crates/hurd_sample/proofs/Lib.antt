@@ -1,4 +1,3 @@
 pub mod WordLaws
 pub mod LineLaws
 pub mod ScriptLaws
-pub mod ListLaws

@@ -7,6 +7,8 @@ pub enum SampleFault {
     /// So many have no room in 1,048,576 bytes.
     TooLong,
     Memory,
+    /// What was drawn is no list of so many calls: no seed is known that comes to this.
+    Unread,
 }
 
 impl From<AllocError> for SampleFault {

@@ -1,25 +1,27 @@
 //! A list of calls from a seed.
-ghost use Rattle.std.specs.Prelude.{◌≡◌, ◌≤◌, ◌++◌, IfOk, OnOk, length, map, string_bytes, true};
+ghost use Rattle.std.specs.Prelude.{◌≡◌, ◌≤◌, IfOk, length, true};
 ghost use Rattle.hurd_lists.specs.Lists.{reading_of};
-ghost use Rattle.hurd_sample.specs.Listed.{HasCalls, is_call_line, lines_text, list_text};
-ghost use Rattle.std.specs.List.{All};
+ghost use Rattle.hurd_sample.specs.Listed.{HasCalls};
 
 use crate::board::Board;
 use crate::fault::SampleFault;
-use crate::line::call_line;
 use hurd_creds::MOST_SCRIPT;
+use hurd_lists::{CallList, ListFault, parse_calls};
 use std::alloc::{AllocError, Global};
 
 /// The tasks of each list: root, alice, bob, and one without ids.
-const TASKS: &str = "task 0 0\ntask 1000 1000,100\ntask 1001 1001,100\ntask - -\n";
+const TASKS: &[u8] = b"task 0 0\ntask 1000 1000,100\ntask 1001 1001,100\ntask - -\n";
 
 /// No call is written in fewer bytes.
 const LEAST_CALL: u64 = 8;
 
+/// What stands in the place of a line that is no call.
+const LOOK: &[u8] = b"0 io_stat 1";
+
 /// A random list of so many calls, good and the same for the same seed: four tasks; a directory for all and a server; then what they
-/// call.
+/// call. What was drawn is read before it is given.
 ///
-/// Errors: `TooLong` where so many calls have no room in 1,048,576 bytes; `Memory` where memory is refused.
+/// Errors: `TooLong` where so many calls have no room in 1,048,576 bytes; `Memory` where memory is refused; `Unread` where what was drawn is no such list.
 pub fn sample_calls(alloc: Global, seed: u64, count: u64) -> Result<Vec<u8>, SampleFault>
     ensures good { IfOk result (λ text. HasCalls count (reading_of text.items)) }
     ensures size { IfOk result (λ text. length text.items ≤ 1048576) }
@@ -27,45 +29,40 @@ pub fn sample_calls(alloc: Global, seed: u64, count: u64) -> Result<Vec<u8>, Sam
     if count > MOST_SCRIPT as u64 / LEAST_CALL {
         return Err(SampleFault::TooLong);
     }
-    let lines = draw(alloc, seed, count)?;
-    let text = list_of(alloc, lines.as_slice())?;
+    let text = drawn(alloc, seed, count)?;
     if text.len() > MOST_SCRIPT {
         return Err(SampleFault::TooLong);
     }
-    Ok(text)
-}
-
-/// The lines of so many calls.
-fn draw(alloc: Global, seed: u64, count: u64) -> Result<Vec<String>, AllocError>
-    ensures count { IfOk result (λ lines. length lines.items ≡ count) }
-    ensures calls { IfOk result (λ lines. All (λ line. is_call_line (string_bytes line) ≡ true) lines.items) }
-{
-    let mut board = Board::new(alloc, seed)?;
-    let mut lines = Vec::new(alloc);
-    for number in 0..count {
-        let text = board.call(alloc, number)?;
-        lines.push(call_line(alloc, text)?)?;
+    if !has_calls(alloc, text.as_slice(), count)? {
+        return Err(SampleFault::Unread);
     }
-    Ok(lines)
-}
-
-/// The list of these lines.
-fn list_of(alloc: Global, lines: &[String]) -> Result<Vec<u8>, AllocError>
-    ensures { IfOk result (λ text. text.items ≡ list_text (map string_bytes lines.now)) }
-{
-    let mut text = Vec::new(alloc);
-    text.extend_from_slice(TASKS.as_bytes())?;
-    push_lines(&mut text, lines)?;
     Ok(text)
 }
 
-/// Writes lines, each with its newline.
-fn push_lines(text: &mut Vec<u8>, lines: &[String]) -> Result<(), AllocError>
-    ensures { OnOk result (text.new.items ≡ text.old.items ++ lines_text (map string_bytes lines.now)) }
-{
-    for line in lines {
-        text.extend_from_slice(line.as_bytes())?;
+/// The tasks, and so many calls. A line that is no call is a look at the root.
+fn drawn(alloc: Global, seed: u64, count: u64) -> Result<Vec<u8>, AllocError> {
+    let mut board = Board::new(alloc, seed)?;
+    let mut text = Vec::from_slice(alloc, TASKS)?;
+    for number in 0..count {
+        let line = board.call(alloc, number)?;
+        if has_calls(alloc, line.as_bytes(), 1)? {
+            text.extend_from_slice(line.as_bytes())?;
+        } else {
+            text.extend_from_slice(LOOK)?;
+        }
         text.push(b'\n')?;
     }
-    Ok(())
+    Ok(text)
+}
+
+/// Whether a text is a good list of so many calls. An error is want of memory.
+fn has_calls(alloc: Global, text: &[u8], count: u64) -> Result<bool, AllocError>
+    ensures { IfOk result (λ has. has ≡ true → HasCalls count (reading_of text.now)) }
+{
+    let list: CallList = match parse_calls(alloc, text) {
+        Ok(list) => list,
+        Err(ListFault::Memory) => return Err(AllocError),
+        Err(ListFault::Bad { line: _, flaw: _ }) => return Ok(false),
+    };
+    Ok(list.calls.len() as u64 == count)
 }
