@@ -1,16 +1,18 @@
 -- Crossing the root of a server, by what the server is.
-use Rattle.std.proofs.Common.{◌≡◌, ◌∙◌, ℕ, Bool, true, false, not, ◌&&◌, is_some, if◌then◌else◌, List, Option, Some, None, option_map, sym, ap, ap₂}
+use Rattle.std.proofs.Common.{◌≡◌, ◌∙◌, ℕ, Bool, true, false, not, ◌&&◌, is_some, if◌then◌else◌, List, [], ◌∷◌, Option, Some, None, option_map, refl, sym, ap, ap₂}
 use Rattle.std.specs.Prelude.{Result, Ok, slice_get}
-use Rattle.hurd_machine.proofs.Common.{Attrs, Crossing, EDIED, Errno, Firm, Header, Name, ServerInfo, World, asks, first, header_at, info_at, on, targets_at, targets_in, words_at}
+use Rattle.hurd_machine.proofs.Common.{Attrs, Crossing, EDIED, Errno, Firm, Header, Name, Node, ServerInfo, World, asks, first, header_at, info_at, node_at, on, passive_of, some_words, targets_at, targets_in, words_at, words_in}
 use Rattle.hurd_creds.specs.Bits.{NOLINK}
 use Rattle.hurd_trans_iface.specs.Meaning.{root_of}
+use Rattle.hurd_trans_iface.specs.Nodes.{attrs_of, has_words}
 use Rattle.hurd_trans_iface.specs.declared.root.Root.{Root}
 use Rattle.hurd_trans_iface.specs.declared.root.Crossing.TheVariants.{Link}
 use Rattle.hurd_nodes.proofs.PartLaws.{mapped-some}
 use Rattle.hurd_core.specs.PortNode.{header_with}
 use Rattle.hurd_lookup.specs.declared.request.Request.{Request}
-use Rattle.hurd_lookup.specs.Lookup.{Authority, Place, cross, crossing, enter, follow, hold_on, is_last}
-use Rattle.hurd_lookup.specs.Ends.{text_at, text_by}
+use Rattle.hurd_lookup.specs.Lookup.{Authority, Crossed, Place, Waiting, cross, crossing, enter, follow, hold_on, is_last}
+use Rattle.hurd_lookup.specs.Ends.{IsHere, tells_words, text_at, text_by}
+use Rattle.hurd_lookup.specs.declared.here.Here.{Here}
 
 -- a node whose attributes are told is there
 pub there : (w : World) (n : Name) (o : Option Attrs) (b : Bool) → is_some o ≡ not b → b ≡ false → option_map (header_with (words_at w n)) o ≡ header_at w n → (h : Header) × (header_at w n ≡ Some h)

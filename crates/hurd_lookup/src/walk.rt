@@ -304,7 +304,7 @@ pub(crate) fn walk<'a, S: Server>(
     let mut rest = path;
     while let Some((name, after)) = first_name(rest) {
         match stepped(core, authority, request, here, rest, name, after)? {
-            Step::On(next) => here = next,
+            Step::On(node) => here = node,
             Step::To(place) => return Ok(place),
         }
         rest = after;
