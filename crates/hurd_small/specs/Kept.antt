@@ -1,5 +1,5 @@
 -- What is kept of a node of which more than options changes, of any kind.
-use Rattle.std.specs.Prelude.{◌≡◌, ℕ, Bool, true, false, not, if◌then◌else◌, List, [], replicate, Option, Some, None, refl}
+use Rattle.std.specs.Prelude.{◌≡◌, ℕ, Bool, true, false, ◌||◌, if◌then◌else◌, List, [], replicate, Option, Some, None, refl}
 use Rattle.hurd_trans_iface.specs.Kinds.Drip.{drop_byte}
 use Rattle.hurd_trans_iface.specs.Meaning.{Meaning, keeps_tree}
 use Rattle.hurd_trans_iface.specs.declared.begun.ServerKind.{ServerKind}
@@ -26,13 +26,24 @@ kept_meaning s = lone_meaning (keeping s.keeper).kind (keeping s.keeper).text (k
 
 -- whether a kind is one of a single node of which more than options changes
 abbrev pub is_kept : ServerKind → Bool
-is_kept kind.Tmpfs = false
-is_kept kind.Union = false
-is_kept k = not (is_fixed k)
+is_kept kind.Drip = true
+is_kept kind.Fifo = true
+is_kept _ = false
+
+-- no other kind is
+pub not_kept : (k : ServerKind) → (k ≡ kind.Drip → ⊥) → (k ≡ kind.Fifo → ⊥) → is_kept k ≡ false
+not_kept kind.Drip a b = absurd (a refl)
+not_kept kind.Fifo a b = absurd (b refl)
+not_kept _ a b = refl
+
+-- whether a kind is one of a single node, whose text is bytes
+abbrev pub is_lone : ServerKind → Bool
+is_lone k = is_fixed k || is_kept k
 
 -- a server, where its kind is such a one
-abbrev pub only_kept : Meaning → Option Meaning
-only_kept m = if is_kept m.kind then Some m else None
+abbrev pub only_kept : Option Meaning → Option Meaning
+only_kept None = None
+only_kept (Some m) = if is_kept m.kind then Some m else None
 
 -- nothing is made in its server
 pub keeps_no_tree : (s : Kept) → keeps_tree (keeping s).kind ≡ false

@@ -1,17 +1,20 @@
 //! What servers of one node keep, of all kinds of which more than options changes.
 ghost use Rattle.std.specs.Option.{option_map};
-ghost use Rattle.std.specs.Prelude.{◌≡◌, IfOk, refl};
-ghost use Rattle.hurd_trans_iface.specs.Meaning.{new_server};
+ghost use Rattle.std.specs.Prelude.{◌≡◌, true, Some, None, IfOk, IfErr, MatchOption};
+ghost use Rattle.hurd_trans_iface.specs.Meaning.{begin, new_server};
 ghost use Rattle.hurd_trans_iface.specs.Sayings.{IsFit, server_said};
-ghost use Rattle.hurd_small.specs.Kept.{keeping, keeps_no_tree, kept_meaning, only_kept};
+ghost use Rattle.hurd_small.specs.Kept.{is_kept, keeping, keeps_no_tree, kept_meaning, only_kept};
 
-use crate::drops::Drops;
+mod drops;
+mod pipe;
+
 use crate::keeper::Keeper;
 use crate::lone::Lone;
-use crate::pipe::Pipe;
 use crate::presence::Presence;
+pub use drops::Drops;
 use hurd_creds::{Bytes, Errno};
-use hurd_trans_iface::{Begun, Names, Root, ServerKind, Words};
+use hurd_trans_iface::{Begun, Names, Root, ServerKind, Words, begun_by};
+pub use pipe::Pipe;
 use std::alloc::{AllocError, Global};
 
 /// What a server of one node keeps of which more than options changes, whatever its kind is.
@@ -77,13 +80,7 @@ impl Keeper for Kept {
         kept!(self, keeper => keeper.bytes())
     }
 
-    fn read(
-        &mut self,
-        alloc: Global,
-        at: u64,
-        amount: u64,
-        writers: u128,
-    ) -> Result<Bytes, Errno> {
+    fn read(&mut self, alloc: Global, at: u64, amount: u64, writers: u128) -> Result<Bytes, Errno> {
         kept!(self, keeper => keeper.read(alloc, at, amount, writers))
     }
 
@@ -104,30 +101,45 @@ impl Keeper for Kept {
     }
 }
 
-/// What a server of this kind keeps at first, to which this is said; none of another kind.
+/// What a server of this kind keeps at first, to which this is said; none where its kind is of another sort.
+#[tactic(auto, using(crate::specs::Kept::not_kept))]
 fn keeper_of(alloc: Global, begun: Begun<'_>) -> Result<Option<Kept>, AllocError>
     requires { IsFit begun }
-    ensures { IfOk result (λ keeper. option_map (λ k. new_server (keeping k).kind (keeping k).text) keeper ≡ only_kept (server_said begun.entry)) }
+    ensures is { IfOk result (λ keeper. option_map (λ k. new_server (keeping k).kind (keeping k).text) keeper ≡ only_kept (Some (server_said begun.entry))) }
+    ensures err { IfErr result (λ _. is_kept begun.entry.kind ≡ true) }
 {
     Ok(match begun.kind {
         ServerKind::Drip => Some(Kept::Drops(Drops::counted_by(alloc, begun.text)?)),
         ServerKind::Fifo => Some(Kept::Pipe(Pipe::empty())),
-        ServerKind::Tmpfs => None,
-        ServerKind::Union => None,
-        ServerKind::Hello => None,
-        ServerKind::Null => None,
-        ServerKind::Zero => None,
-        ServerKind::Symlink => None,
-        ServerKind::Firmlink => None,
-        ServerKind::Magic => None,
+        _ => None,
     })
 }
 
 impl Lone<Kept> {
-    /// The server of this kind, to which this is said; none of a kind that has more nodes, or of which nothing but options changes. It has no root until one is named.
+    /// The server that these words make, of one of those kinds. It has no root until one is named.
+    ///
+    /// Errors, in order: `EINVAL` other words; `ENOMEM`.
+    pub fn new(alloc: Global, words: &Words) -> Result<KeptServer, Errno>
+        ensures begins { IfOk result (λ s. begin words.now ≡ Some (kept_meaning s)) }
+        ensures rootless { IfOk result (λ s. (kept_meaning s).root ≡ None) }
+        ensures err { IfErr result
+            (λ e. MatchOption (only_kept (begin words.now)) (e ≡ Errno.EINVAL) (λ _. e ≡ Errno.ENOMEM)) }
+    {
+        words.known();
+        let Some(begun) = begun_by(words.as_slice()) else {
+            return Err(Errno::EINVAL);
+        };
+        match KeptServer::said(alloc, begun)? {
+            Some(server) => Ok(server),
+            None => Err(Errno::EINVAL),
+        }
+    }
+
+    /// The server to which this is said; none where its kind is of another sort. It has no root until one is named.
     pub fn said(alloc: Global, begun: Begun<'_>) -> Result<Option<KeptServer>, AllocError>
         requires { IsFit begun }
-        ensures { IfOk result (λ server. option_map kept_meaning server ≡ only_kept (server_said begun.entry)) }
+        ensures is { IfOk result (λ server. option_map kept_meaning server ≡ only_kept (Some (server_said begun.entry))) }
+        ensures err { IfErr result (λ _. is_kept begun.entry.kind ≡ true) }
     {
         match keeper_of(alloc, begun)? {
             Some(keeper) => Ok(Some(Lone {
