@@ -13,8 +13,7 @@ macro_rules! in_box {
             ServerBox::Tmpfs($server) => $call,
             ServerBox::Fixed($server) => $call,
             ServerBox::Union($server) => $call,
-            ServerBox::Drip($server) => $call,
-            ServerBox::Fifo($server) => $call,
+            ServerBox::Kept($server) => $call,
         }
     };
 }

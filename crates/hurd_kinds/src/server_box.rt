@@ -1,15 +1,15 @@
 //! The server that some words make, in a box.
-ghost use Rattle.std.specs.Prelude.{◌≡◌, ◌≤◌, length, IfOk};
+ghost use Rattle.std.specs.Prelude.{◌≡◌, ◌≤◌, true, length, IfOk};
 ghost use Rattle.std.specs.Option.{option_map};
 ghost use Rattle.hurd_trans_iface.specs.Meaning.{begin, new_server};
 ghost use Rattle.hurd_trans_iface.specs.declared.begun.ServerKind.TheVariants.{Tmpfs as TmpfsKind};
-ghost use Rattle.hurd_trans_iface.specs.Sayings.{Fits, IsFit, server_said};
+ghost use Rattle.hurd_trans_iface.specs.Sayings.{IsFit, server_said};
 ghost use Rattle.hurd_trans_iface.specs.Kinds.Tmpfs.{most_digits};
-ghost use Rattle.hurd_small.specs.FixedKinds.{kind_of};
+ghost use Rattle.hurd_small.specs.Kept.{is_lone};
 ghost use Rattle.hurd_tmpfs.specs.Tree.{new_tmpfs, tree};
 ghost use Rattle.hurd_kinds.specs.Boxes.{box_meaning};
 
-use hurd_small::{Drip, Fifo, FixedKind, FixedServer};
+use hurd_small::{FixedServer, KeptServer};
 use hurd_tmpfs::Tmpfs;
 use hurd_trans_iface::{Begun, ServerKind, Words, begun_by};
 use hurd_union::{Union, union_of};
@@ -21,18 +21,23 @@ pub enum ServerBox {
     Tmpfs(Box<Tmpfs>),
     Fixed(Box<FixedServer>),
     Union(Box<Union>),
-    Drip(Box<Drip>),
-    Fifo(Box<Fifo>),
+    Kept(Box<KeptServer>),
 }
 
-/// The server of this kind and text, of which nothing but options changes, in a box.
-#[tactic(auto, using(hurd_small::proofs::FixedLaws::kind_short), unfolding(crate::specs::Boxes::box_meaning))]
-fn fixed(alloc: Global, kind: FixedKind, text: &[u8]) -> Result<ServerBox, AllocError>
-    requires { Fits (kind_of kind) text.now }
-    ensures { IfOk result (λ server. box_meaning server ≡ new_server (kind_of kind) text.now) }
+/// The server of one node to which this is said, in a box.
+#[tactic(auto, using(hurd_small::proofs::KeptLaws::one_sort), unfolding(crate::specs::Boxes::box_meaning))]
+fn lone(alloc: Global, begun: Begun<'_>) -> Result<ServerBox, AllocError>
+    requires fit { IsFit begun }
+    requires lone { is_lone begun.kind ≡ true }
+    ensures { IfOk result (λ server. box_meaning server ≡ server_said begun.entry) }
 {
-    let server = FixedServer::of_kind(alloc, kind, text)?;
-    Ok(ServerBox::Fixed(Box::new(alloc, server)?))
+    if let Some(server) = FixedServer::said(alloc, begun)? {
+        return Ok(ServerBox::Fixed(Box::new(alloc, server)?));
+    }
+    match KeptServer::said(alloc, begun)? {
+        Some(server) => Ok(ServerBox::Kept(Box::new(alloc, server)?)),
+        None => unreachable!(),
+    }
 }
 
 /// An empty tree in memory with these digits as its limit, or none, in a box.
@@ -45,24 +50,19 @@ fn tree_with_limit(alloc: Global, digits: &[u8]) -> Result<Box<Tmpfs>, AllocErro
 }
 
 /// The server of this kind, to which this is said, in a box.
-#[tactic(auto, unfolding(crate::specs::Boxes::box_meaning))]
+#[tactic(auto, using(hurd_small::proofs::KeptLaws::lone_left), unfolding(crate::specs::Boxes::box_meaning))]
 fn boxed(alloc: Global, begun: Begun<'_>) -> Result<ServerBox, AllocError>
     requires { IsFit begun }
     ensures { IfOk result (λ server. box_meaning server ≡ server_said begun.entry) }
 {
-    let text = begun.text;
-    Ok(match begun.kind {
-        ServerKind::Tmpfs => ServerBox::Tmpfs(tree_with_limit(alloc, text)?),
-        ServerKind::Hello => fixed(alloc, FixedKind::Hello, text)?,
-        ServerKind::Null => fixed(alloc, FixedKind::Null, text)?,
-        ServerKind::Zero => fixed(alloc, FixedKind::Zero, text)?,
-        ServerKind::Symlink => fixed(alloc, FixedKind::Symlink, text)?,
-        ServerKind::Firmlink => fixed(alloc, FixedKind::Firmlink, text)?,
-        ServerKind::Union => ServerBox::Union(Box::new(alloc, union_of(alloc, begun.paths)?)?),
-        ServerKind::Magic => fixed(alloc, FixedKind::Magic, text)?,
-        ServerKind::Drip => ServerBox::Drip(Box::new(alloc, Drip::counted_by(alloc, text)?)?),
-        ServerKind::Fifo => ServerBox::Fifo(Box::new(alloc, Fifo::empty())?),
-    })
+    match begun.kind {
+        ServerKind::Tmpfs => Ok(ServerBox::Tmpfs(tree_with_limit(alloc, begun.text)?)),
+        ServerKind::Union => {
+            let union = union_of(alloc, begun.paths)?;
+            Ok(ServerBox::Union(Box::new(alloc, union)?))
+        }
+        _ => lone(alloc, begun),
+    }
 }
 
 /// The server that these words make; none where no kind takes them.

@@ -1,5 +1,5 @@
 -- What is said to kinds of which nothing but options changes.
-use Rattle.std.proofs.Common.{◌≡◌, ◌≤◌, ◌&&◌, Bool, true, false, true≢false, List, ℕ, [], ◌∷◌, length, nat_le, codes, if◌then◌else◌, refl, ap, sym, subst, arith}
+use Rattle.std.proofs.Common.{◌≡◌, ◌≤◌, ◌&&◌, Bool, true, false, true≢false, List, ℕ, [], ◌∷◌, length, nat_le, codes, refl, ap, sym, arith}
 use Rattle.std.proofs.lemmas.Bool.Decides.{nat_tests}
 use Rattle.std.proofs.lemmas.Slice.Eq.{bytes_eq-Decides}
 use Rattle.hurd_creds.specs.Limits.{most_path}

@@ -1,4 +1,3 @@
 pub mod LoneLaws
-pub mod DripLaws
-pub mod PipeLaws
 pub mod FixedLaws
+pub mod KeptLaws

@@ -13,7 +13,7 @@ use Rattle.hurd_creds.proofs.NameLaws.{equal_if_same, apart_if_not_same, same_or
 use Rattle.hurd_creds.proofs.MapLaws.{map_values-empty, map_values-insert}
 use Rattle.hurd_creds.proofs.StepLaws.{steps-inside, steps-refused}
 use Rattle.hurd_trans_iface.specs.declared.header_edit.HeaderEdit.{HeaderEdit}
-use Rattle.hurd_trans_iface.specs.Nodes.{AllListed, Body, Node, NodeMap, body_of, is_dir, is_entered_at, passive_of, with_header, with_size}
+use Rattle.hurd_trans_iface.specs.Nodes.{AllListed, Node, NodeMap, body_of, is_dir, is_entered_at, passive_of, with_header, with_size}
 use Rattle.hurd_trans_iface.specs.Answers.{entry_of, unlink_of}
 use Rattle.hurd_trans_iface.specs.Meaning.{Meaning, behaviour_of, root_of, keeps_tree, new_root, root_body, begin_root_after, step_of, options_taken, resized, set_options_step, size_of, space_of, unlink_step, forget_after, edit_header_step}
 use Rattle.hurd_trans_iface.specs.declared.begun.ServerKind.{ServerKind}

@@ -1,6 +1,6 @@
 pub mod Lone
+pub mod Calls
 pub mod Meanings
 pub mod FixedKinds
 pub mod Fixed
-pub mod Drip
-pub mod Fifo
+pub mod Kept

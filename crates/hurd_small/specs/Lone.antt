@@ -1,5 +1,5 @@
 -- Servers of one node, which is a directory without entries or no directory.
-use Rattle.std.specs.Prelude.{◌≡◌, ℕ, if◌then◌else◌, List, [], length, nat_lt, Option, Some, None, Result, Ok, Err}
+use Rattle.std.specs.Prelude.{◌≡◌, ℕ, if◌then◌else◌, List, length, nat_lt, Option, Some, None, Result, Ok, Err}
 use Rattle.std.specs.FinMap as fin
 use Rattle.hurd_creds.specs.Memory.{Meets}
 use Rattle.hurd_creds.specs.declared.name.Name.{Name}

@@ -1,6 +1,6 @@
 //! A server of one node of which nothing but options changes.
 ghost use Rattle.std.specs.Option.{option_map};
-ghost use Rattle.std.specs.Prelude.{◌≡◌, ◌≤◌, if◌then◌else◌, length, Some, None, IfOk, IfErr, IfSome, MatchOption};
+ghost use Rattle.std.specs.Prelude.{◌≡◌, ◌≤◌, true, if◌then◌else◌, length, Some, None, IfOk, IfErr, IfSome, MatchOption};
 ghost use Rattle.hurd_trans_iface.specs.Kinds.Hello.{most_text};
 ghost use Rattle.hurd_trans_iface.specs.Meaning.{begin, new_server};
 ghost use Rattle.hurd_trans_iface.specs.Sayings.{IsFit, server_said};
@@ -12,27 +12,11 @@ use crate::fixed_kind::FixedKind;
 use crate::lone::Lone;
 use crate::still::Still;
 use hurd_creds::{Bytes, Errno};
-use hurd_trans_iface::{Begun, ServerKind, Words, begun_by};
+use hurd_trans_iface::{Begun, Words, begun_by};
 use std::alloc::{AllocError, Global};
 
 /// A server of one node of which nothing but options changes, of one of six kinds.
 pub type FixedServer = Lone<Still<Fixed>>;
-
-/// Such a kind among all kinds, if it is one.
-#[tactic(auto, using(crate::proofs::FixedLaws::not_fixed))]
-fn fixed_kind(kind: ServerKind) -> Option<FixedKind>
-    ensures { option_map kind_of result ≡ (if is_fixed kind then Some kind else None) }
-{
-    match kind {
-        ServerKind::Hello => Some(FixedKind::Hello),
-        ServerKind::Null => Some(FixedKind::Null),
-        ServerKind::Zero => Some(FixedKind::Zero),
-        ServerKind::Symlink => Some(FixedKind::Symlink),
-        ServerKind::Firmlink => Some(FixedKind::Firmlink),
-        ServerKind::Magic => Some(FixedKind::Magic),
-        _ => None,
-    }
-}
 
 /// The kind and the text that words say, lent; none where they make a server of another kind.
 #[tactic(auto, using(crate::proofs::FixedLaws::fixed_short))]
@@ -41,7 +25,7 @@ fn fixed_in(begun: Begun<'_>) -> Option<(FixedKind, &[u8])>
     ensures is { option_map (λ said. new_server (kind_of said.0) said.1.now) result ≡ only_fixed (Some (server_said begun.entry)) }
     ensures short { IfSome result (λ said. length said.1.now ≤ most_text) }
 {
-    let kind = fixed_kind(begun.kind)?;
+    let kind = FixedKind::among(begun.kind)?;
     Some((kind, begun.text))
 }
 
@@ -59,9 +43,21 @@ impl Lone<Still<Fixed>> {
         let Some(begun) = begun_by(words.as_slice()) else {
             return Err(Errno::EINVAL);
         };
-        match fixed_in(begun) {
-            Some((kind, text)) => Ok(FixedServer::of_kind(alloc, kind, text)?),
+        match FixedServer::said(alloc, begun)? {
+            Some(server) => Ok(server),
             None => Err(Errno::EINVAL),
+        }
+    }
+
+    /// The server to which this is said; none where its kind is of another sort. It has no root until one is named.
+    pub fn said(alloc: Global, begun: Begun<'_>) -> Result<Option<FixedServer>, AllocError>
+        requires { IsFit begun }
+        ensures is { IfOk result (λ server. option_map fixed_meaning server ≡ only_fixed (Some (server_said begun.entry))) }
+        ensures err { IfErr result (λ _. is_fixed begun.entry.kind ≡ true) }
+    {
+        match fixed_in(begun) {
+            Some((kind, text)) => Ok(Some(FixedServer::of_kind(alloc, kind, text)?)),
+            None => Ok(None),
         }
     }
 

@@ -1,11 +1,11 @@
 //! What a server of one node says itself, and what it keeps of the node.
 ghost use Rattle.std.specs.Prelude.{◌≡◌, ℕ, false, List, [], Ok};
 ghost use Rattle.hurd_creds.specs.Memory.{Meets, Steps};
-ghost use Rattle.hurd_trans_iface.specs.Behaviour.{served, told_of};
+ghost use Rattle.hurd_trans_iface.specs.Behaviour.{reading, resizing, writing};
 ghost use Rattle.hurd_trans_iface.specs.Meaning.{behaviour_of, counts_opens, keeps_tree, options_of, root_of, targets_of};
 ghost use Rattle.hurd_trans_iface.specs.declared.begun.ServerKind.{ServerKind};
-ghost use Rattle.hurd_small.specs.declared.presence.LoneNode.{LoneNode};
-ghost use Rattle.hurd_small.specs.Lone.{body_with, node_of, text_taken};
+ghost use Rattle.hurd_small.specs.Calls.{Does, Readable, TakesNone, Tries};
+ghost use Rattle.hurd_small.specs.Lone.{body_with, text_taken};
 
 use hurd_creds::{Bytes, Errno};
 use hurd_trans_iface::{Names, Root, Words};
@@ -71,10 +71,8 @@ pub trait Keeper: Drop {
     ///
     /// Errors: what its kind says, else `ENOMEM`.
     fn read(&mut self, alloc: Global, at: u64, amount: u64, writers: u128) -> Result<Bytes, Errno>
-        ensures steps { (n : LoneNode) → let x = node_of (kind self.old) (text self.old) (held self.old) n in
-            Steps x (served ((behaviour_of (kind self.old)).read (text self.old) x at amount writers) x) result (node_of (kind self.old) (text self.new) (held self.new) n) }
-        ensures nothing { (n : LoneNode) → let x = node_of (kind self.old) (text self.old) (held self.old) n in
-            told_of ((behaviour_of (kind self.old)).read (text self.old) x at amount writers) ≡ Ok [] → result ≡ Ok [] }
+        ensures steps { Tries (reading at amount writers) (kind self.old) (text self.old) (held self.old) result (text self.new) (held self.new) }
+        ensures nothing { TakesNone (reading at amount writers) (kind self.old) (text self.old) (held self.old) result }
         ensures kind { kind self.new ≡ kind self.old }
         ensures text { text self.new ≡ text self.old };
 
@@ -82,8 +80,7 @@ pub trait Keeper: Drop {
     ///
     /// Errors: what its kind says.
     fn write(&mut self, at: u64, bytes: &[u8], readers: u128) -> Result<u64, Errno>
-        ensures steps { (n : LoneNode) → let x = node_of (kind self.old) (text self.old) (held self.old) n in
-            (result, node_of (kind self.old) (text self.new) (held self.new) n) ≡ served ((behaviour_of (kind self.old)).write (text self.old) x at bytes.now readers) x }
+        ensures steps { Does (writing at bytes.now readers) (kind self.old) (text self.old) (held self.old) result (text self.new) (held self.new) }
         ensures kind { kind self.new ≡ kind self.old }
         ensures text { text self.new ≡ text self.old };
 
@@ -91,14 +88,13 @@ pub trait Keeper: Drop {
     ///
     /// Errors: what its kind says.
     fn set_size(&mut self, size: u64) -> Result<(), Errno>
-        ensures steps { (n : LoneNode) → let x = node_of (kind self.old) (text self.old) (held self.old) n in
-            (result, node_of (kind self.old) (text self.new) (held self.new) n) ≡ served ((behaviour_of (kind self.old)).set_size (text self.old) x size) x }
+        ensures steps { Does (resizing size) (kind self.old) (text self.old) (held self.old) result (text self.new) (held self.new) }
         ensures kind { kind self.new ≡ kind self.old }
         ensures text { text self.new ≡ text self.old };
 
     /// How many bytes there are to read at a place.
     fn readable(&self, at: u64) -> u64
-        ensures { (n : LoneNode) → result ≡ (behaviour_of (kind self.now)).readable (text self.now) (node_of (kind self.now) (text self.now) (held self.now) n) at };
+        ensures { Readable (kind self.now) (text self.now) (held self.now) at result };
 
     /// Whether reads and writes go by how many opens write and read the node.
     fn counts(&self) -> bool

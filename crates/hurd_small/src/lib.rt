@@ -5,30 +5,24 @@
 #![tactic(auto)]
 
 mod contents;
-mod drip;
-mod drops;
-mod fifo;
 mod fixed;
 mod fixed_kind;
 mod fixed_server;
 mod keeper;
+mod kept;
 mod lone;
-mod pipe;
 mod presence;
 mod single;
 mod still;
 mod text;
 mod words;
 
-pub use drip::Drip;
-pub use drops::Drops;
-pub use fifo::Fifo;
 pub use fixed::Fixed;
 pub use fixed_kind::FixedKind;
 pub use fixed_server::FixedServer;
 pub use keeper::Keeper;
+pub use kept::{Kept, KeptServer};
 pub use lone::Lone;
-pub use pipe::Pipe;
 pub use single::Single;
 pub use still::Still;
 pub use words::no_options;

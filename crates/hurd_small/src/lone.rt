@@ -140,6 +140,7 @@ impl<K: Keeper> Server for Lone<K> {
         }
     }
 
+    #[tactic(auto, unfolding(crate::specs::Calls::Readable))]
     fn readable(&self, node: NodeName, at: u64) -> Option<u64> {
         match self.presence.find(node) {
             Some(_) => Some(self.keeper.readable(at)),

@@ -1,15 +1,15 @@
 use Rattle.std.proofs.Common.{◌∙◌, ap, sym}
 use Rattle.hurd_trans_iface.specs.Meaning.{link_step}
-use Rattle.hurd_small.specs.Drip.{drip_meaning}
+use Rattle.hurd_small.specs.Kept.{kept_meaning}
 use Rattle.hurd_tmpfs.specs.Tree.{tree}
 use Rattle.hurd_kinds.specs.Boxes.{box_meaning}
 use Rattle.hurd_kinds.proofs.BoxLaws.{stepped_as}
 use Rattle.hurd_kinds.proofs.in_box.ServerBoxServer.link.Goals as goal
 
-pub returns-in-Drip : goal.returns-in-Drip
+pub returns-in-Kept : goal.returns-in-Kept
 unfolding box_meaning
-returns-in-Drip c =
-    stepped_as (link_step c.args.dir c.args.name.now c.args.node) (ap box_meaning c.in-Drip.is ∙ ap drip_meaning (sym c.deref_mut-in-Drip.ensures.value)) c.link-in-Drip.ensures
+returns-in-Kept c =
+    stepped_as (link_step c.args.dir c.args.name.now c.args.node) (ap box_meaning c.in-Kept.is ∙ ap kept_meaning (sym c.deref_mut-in-Kept.ensures.value)) c.link-in-Kept.ensures
 
 pub returns-in-Tmpfs : goal.returns-in-Tmpfs
 unfolding box_meaning

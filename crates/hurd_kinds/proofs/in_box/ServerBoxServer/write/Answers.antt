@@ -3,7 +3,7 @@ use Rattle.hurd_trans_iface.specs.Behaviour.{writing}
 use Rattle.hurd_trans_iface.specs.Nodes.{Reaches, body_of}
 use Rattle.hurd_trans_iface.specs.Meaning.{Meaning, step_of}
 use Rattle.hurd_small.specs.Fixed.{fixed_meaning}
-use Rattle.hurd_small.specs.Drip.{drip_meaning}
+use Rattle.hurd_small.specs.Kept.{kept_meaning}
 use Rattle.hurd_tmpfs.specs.Tree.{tree}
 use Rattle.hurd_kinds.specs.Boxes.{box_meaning}
 use Rattle.hurd_kinds.proofs.BoxLaws.{known_as, stepped_as}
@@ -14,10 +14,10 @@ unfolding box_meaning
 returns-in-Fixed-clause-steps c =
     stepped_as (step_of (writing c.args.at c.args.bytes.now c.args.readers) c.args.node) (ap box_meaning c.in-Fixed.is ∙ ap fixed_meaning (sym c.deref_mut-in-Fixed.ensures.value)) c.write-in-Fixed.ensures.steps
 
-pub returns-in-Drip-clause-steps : goal.returns-in-Drip-clause-steps
+pub returns-in-Kept-clause-steps : goal.returns-in-Kept-clause-steps
 unfolding box_meaning
-returns-in-Drip-clause-steps c =
-    stepped_as (step_of (writing c.args.at c.args.bytes.now c.args.readers) c.args.node) (ap box_meaning c.in-Drip.is ∙ ap drip_meaning (sym c.deref_mut-in-Drip.ensures.value)) c.write-in-Drip.ensures.steps
+returns-in-Kept-clause-steps c =
+    stepped_as (step_of (writing c.args.at c.args.bytes.now c.args.readers) c.args.node) (ap box_meaning c.in-Kept.is ∙ ap kept_meaning (sym c.deref_mut-in-Kept.ensures.value)) c.write-in-Kept.ensures.steps
 
 pub returns-in-Tmpfs-clause-steps : goal.returns-in-Tmpfs-clause-steps
 unfolding box_meaning

@@ -4,9 +4,11 @@ use Rattle.hurd_trans_iface.specs.Meaning.{behaviour_of}
 use Rattle.hurd_trans_iface.proofs.NodeSteps.{step-nowhere, told-nowhere}
 use Rattle.hurd_small.specs.Lone.{lone_meaning, node_of}
 use Rattle.hurd_small.proofs.LoneLaws.{step-kept, steps-told, told-kept}
+use Rattle.hurd_small.specs.Calls.{Does}
 use Rattle.hurd_small.proofs.lone.LoneServer.write.Goals as goal
 
 pub returns-in-Some : goal.returns-in-Some
+unfolding Does
 returns-in-Some g c =
     let s = c.args.self.now in
     let kind = g.K.Keeper.kind s.keeper in
