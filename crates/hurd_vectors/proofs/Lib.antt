@@ -1,1 +1,4 @@
 pub mod JsonLemmas
+pub mod FieldLemmas
+pub mod TaskLemmas
+pub mod LineLaws

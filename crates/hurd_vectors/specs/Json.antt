@@ -15,7 +15,7 @@ json_byte b =
     else if b == 12 then codes "\\f"
     else if b == 13 then codes "\\r"
     else if nat_le 32 b && nat_le b 126 then b ∷ []
-    else codes "\\u00" ++ hex_letter (b / 16) ∷ hex_letter (b % 16) ∷ []
+    else codes "\\u00" ++ hex_letter (b / 16 % 16) ∷ hex_letter (b % 16) ∷ []
 
 -- the bytes of a text, one after another
 unfoldable pub json : List ℕ → List ℕ

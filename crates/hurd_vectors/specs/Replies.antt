@@ -2,6 +2,7 @@
 use Rattle.std.specs.Prelude.{ℕ, List, [], ◌∷◌, ◌++◌, Option, Some, None, codes, decimal}
 use Rattle.hurd_creds.specs.Errors.{name_of}
 use Rattle.hurd_creds.specs.declared.attrs.Stat.{Stat}
+use Rattle.hurd_creds.specs.declared.mode.Mode.{Mode}
 use Rattle.hurd_words.specs.Printing.{six_octal_digits}
 use Rattle.hurd_machine.specs.Calls.{Reply}
 use Rattle.hurd_machine.specs.declared.call.Lookup.{Lookup}
@@ -26,8 +27,8 @@ unfoldable pub owner_text : Stat → List ℕ
 owner_text s = codes ", \"owner\": " ++ (decimal s.owner ++ (codes ", \"group\": " ++ decimal s.group))
 
 -- its mode in octal digits
-unfoldable pub mode_text : Stat → List ℕ
-mode_text s = codes ", \"mode\": \"" ++ (high_digits s.mode.0 ++ (six_octal_digits s.mode.0 ++ 34 ∷ []))
+unfoldable pub mode_text : Mode → List ℕ
+mode_text m = codes ", \"mode\": \"" ++ (high_digits m.0 ++ (six_octal_digits m.0 ++ 34 ∷ []))
 
 -- how many entries name it, its size, and whether it has translators
 unfoldable pub rest_text : Stat → List ℕ
@@ -36,7 +37,7 @@ rest_text s =
 
 -- attributes, behind the kind of the reply
 abbrev pub stat_text : Stat → List ℕ
-stat_text s = codes "\"Stat\", \"node\": \"" ++ (kind_name s.kind ++ (34 ∷ owner_text s ++ (mode_text s ++ rest_text s)))
+stat_text s = codes "\"Stat\", \"node\": \"" ++ (kind_name s.kind ++ (34 ∷ owner_text s ++ (mode_text s.mode ++ rest_text s)))
 
 -- an error as a field, behind the kind of the reply
 abbrev pub error_text : List ℕ → List ℕ → List ℕ

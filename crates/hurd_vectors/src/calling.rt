@@ -19,11 +19,7 @@ use hurd_world::{Reply, World};
 use std::alloc::{AllocError, Global};
 
 /// A call's line with its reply, on a line. An error is want of memory.
-fn vector_of<S: Server>(
-    alloc: Global,
-    line: &[u8],
-    reply: &Reply<S>,
-) -> Result<Vec<u8>, AllocError>
+fn vector_of<S: Server>(alloc: Global, line: &[u8], reply: &Reply<S>) -> Result<Vec<u8>, AllocError>
     ensures { IfOk result (λ vector. vector.items ≡ vector_of line.now (reply_by S.meaning reply.now)) }
 {
     let words = line_words(alloc, line)?;

@@ -1,5 +1,5 @@
 //! The tasks of a list.
-ghost use Rattle.std.specs.Prelude.{◌≡◌, ◌++◌, ◌∷◌, List, ℕ, IfOk, OnOk, codes};
+ghost use Rattle.std.specs.Prelude.{◌≡◌, ◌++◌, ◌∷◌, List, ℕ, Some, true, IfOk, OnOk, codes};
 ghost use Rattle.hurd_words.specs.Reading.{said};
 ghost use Rattle.hurd_words.specs.Users.{begins_with};
 ghost use Rattle.hurd_vectors.specs.Lines.{header_of, ids_of, ids_text, tasks_text};

@@ -42,10 +42,10 @@ fn push_byte(text: &mut Vec<u8>, byte: u8) -> Result<(), AllocError>
 
 /// Prints a byte by its number, in four hexadecimal digits.
 fn push_code(text: &mut Vec<u8>, byte: u8) -> Result<(), AllocError>
-    ensures { OnOk result (text.new.items ≡ text.old.items ++ (codes "\\u00" ++ hex_letter (byte / 16) ∷ hex_letter (byte % 16) ∷ [])) }
+    ensures { OnOk result (text.new.items ≡ text.old.items ++ (codes "\\u00" ++ hex_letter (byte / 16 % 16) ∷ hex_letter (byte % 16) ∷ [])) }
 {
     text.extend_from_slice(b"\\u00")?;
-    text.extend_from_slice(&[hex_digit(byte / 16), hex_digit(byte % 16)])?;
+    text.extend_from_slice(&[hex_digit(byte / 16 % 16), hex_digit(byte % 16)])?;
     Ok(())
 }
 
@@ -186,11 +186,7 @@ fn push_joined_numbers(text: &mut Vec<u8>, words: &[&[u8]]) -> Result<(), AllocE
 }
 
 /// Prints numbers that are joined by commas, or `-` for none, as an array.
-pub(crate) fn push_numbers(
-    alloc: Global,
-    text: &mut Vec<u8>,
-    word: &[u8],
-) -> Result<(), AllocError>
+pub(crate) fn push_numbers(alloc: Global, text: &mut Vec<u8>, word: &[u8]) -> Result<(), AllocError>
     ensures { OnOk result (text.new.items ≡ text.old.items ++ numbers word.now) }
 {
     if is_dash(word) {
@@ -245,11 +241,7 @@ fn push_joined_texts(text: &mut Vec<u8>, skip: usize, items: &[Bytes]) -> Result
 }
 
 /// Prints texts without so many of their first bytes, as an array.
-pub(crate) fn push_texts(
-    text: &mut Vec<u8>,
-    skip: usize,
-    items: &[Bytes],
-) -> Result<(), AllocError>
+pub(crate) fn push_texts(text: &mut Vec<u8>, skip: usize, items: &[Bytes]) -> Result<(), AllocError>
     ensures { OnOk result (text.new.items ≡ text.old.items ++ texts skip items.now) }
 {
     text.push(b'[')?;

@@ -1,5 +1,6 @@
 //! Replies as objects.
 ghost use Rattle.std.specs.Prelude.{◌≡◌, ◌++◌, OnOk};
+ghost use Rattle.hurd_creds.specs.Errors.{name_of};
 ghost use Rattle.hurd_machine.specs.Calls.{reply_by};
 ghost use Rattle.hurd_lists.specs.Replies.{flags_text};
 ghost use Rattle.hurd_vectors.specs.Json.{names};
