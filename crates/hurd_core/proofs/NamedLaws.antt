@@ -1,14 +1,25 @@
 -- What a port names, from the attributes and the words of its node.
-use Rattle.std.proofs.Common.{◌≡◌, ℕ, List, [], ◌∷◌, Option, Some, None, refl, option_map}
+use Rattle.std.proofs.Common.{◌≡◌, ◌∙◌, ℕ, false, true≢false, List, [], ◌∷◌, Option, Some, None, refl, ap, option_map}
 use Rattle.std.specs.Prelude.{Ok}
 use Rattle.hurd_machine.proofs.Common.{Attrs, IoRight, Node, World, both_asks, first, io_right_of, node_at, on, passive_of, port_asks, ports_of, some_words, words_in}
-use Rattle.hurd_trans_iface.specs.Nodes.{attrs_of}
+use Rattle.hurd_trans_iface.specs.Nodes.{attrs_of, has_words}
 use Rattle.hurd_core.specs.PortNode.{header_with, or_no_words}
 
 -- words that are there, or none, are the list that is stored
 words_back : (ws : List (List ℕ)) → or_no_words (some_words ws) ≡ ws
 words_back [] = refl
 words_back (w ∷ ws) = refl
+
+-- a node whose attributes tell that no words are stored has none
+pub wordless : (o : Option Node) (a : Attrs) → option_map attrs_of o ≡ Some a → a.passive ≡ false → passive_of o ≡ None
+wordless None a is off = refl
+wordless (Some x) a is off =
+    let same : attrs_of x ≡ a = cc in
+    by x.header.passive (ap (λ (b : Attrs). b.passive) same ∙ off)
+  where
+    by : (ws : List (List ℕ)) → has_words ws ≡ false → some_words ws ≡ None
+    by [] none = refl
+    by (w ∷ ws) none = absurd (true≢false none)
 
 -- attributes and stored words are the header
 pub header_told : (o : Option Node) → option_map (header_with (words_in o)) (option_map attrs_of o) ≡ option_map (λ (x : Node). x.header) o

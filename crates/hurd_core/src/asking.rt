@@ -55,6 +55,19 @@ impl<S: Server> Core<S> {
         }
     }
 
+    /// The words of the passive translator of a node of these attributes, which tell whether there are any: else it isn't asked once more.
+    #[tactic(auto, using(crate::proofs::NamedLaws::wordless))]
+    fn words_told(&self, node: NodeName, attrs: &Attrs) -> Option<&Words>
+        requires { option_map attrs_of (node_at (world_of S.meaning self.now) node) ≡ Some attrs.now }
+        ensures { option_copied result ≡ passive_of (node_at (world_of S.meaning self.now) node) }
+    {
+        if attrs.passive {
+            self.passive(node)
+        } else {
+            None
+        }
+    }
+
     /// The right of a task under a number, with the attributes of its node.
     ///
     /// Errors, in order: `ESRCH` no such task, `EBADF` no such port, or one that controls a server, `EDIED` no such node.
@@ -67,7 +80,7 @@ impl<S: Server> Core<S> {
         let Some(attrs) = self.nodes.attrs(right.node) else {
             return Err(Errno::EDIED);
         };
-        let words = self.nodes.passive(right.node);
+        let words = self.words_told(right.node, &attrs);
         Ok(PortNode {
             right,
             attrs,
@@ -100,12 +113,12 @@ impl<S: Server> Core<S> {
         let first = PortNode {
             right,
             attrs,
-            words: self.nodes.passive(right.node),
+            words: self.words_told(right.node, &attrs),
         };
         let second = PortNode {
             right: second,
             attrs: others,
-            words: self.nodes.passive(second.node),
+            words: self.words_told(second.node, &others),
         };
         Ok((first, second))
     }

@@ -26,6 +26,11 @@ module _ {S : Type 0} (m l : IndexMap Name ℕ S) (n : Name) where
       no_more : (a : ℕ) → a ≡ a + 0
       no_more a = omega arith
 
+  -- the same where nothing was counted
+  pub count-first : (j : ℕ) → 0 ≡ counted m.entries n → ((q : Name) → get same_name l q ≡ cond (same_name n q) (Some j) (get same_name m q))
+      → (o : Name) → counted l.entries o ≡ counted m.entries o + if_so (same_name o n) j
+  count-first j none w = count-added 0 j none (λ q. let e : 0 + j ≡ j = omega arith in rw e (w q))
+
   -- so many less are, where none is written if none is left
   pub count-less : (k j : ℕ) (v : Option ℕ) → k ≡ counted m.entries n → or_none v + j ≡ k → ((q : Name) → get same_name l q ≡ cond (same_name n q) v (get same_name m q))
       → (o : Name) → counted l.entries o + if_so (same_name o n) j ≡ counted m.entries o

@@ -30,8 +30,12 @@ pub fn add(counts: &mut Counts, name: Name, more: u128)
     ensures more { (n : Name) → counted counts.new.entries n ≡ counted counts.old.entries n + if_so (same_name n name) more }
     ensures room { spare counts.old ≤ spare counts.new + 1 }
 {
-    let count = count(counts, name);
-    counts.insert(name, count + more).unwrap();
+    match counts.get_mut(&name) {
+        Some(count) => *count += more,
+        None => {
+            counts.insert(name, more).unwrap();
+        }
+    }
 }
 
 /// Counts the name so many times less, and keeps nothing of it if it is counted no more. Takes no room.
@@ -41,11 +45,10 @@ pub fn subtract(counts: &mut Counts, name: Name, less: u128)
     ensures gone { counted counts.new.entries name ≡ 0 → lookup (same_name name) counts.new.entries ≡ None }
     ensures room { spare counts.old ≤ spare counts.new }
 {
-    if count(counts, name) > less {
-        if let Some(count) = counts.get_mut(&name) {
-            *count -= less;
+    match counts.get_mut(&name) {
+        Some(count) if *count > less => *count -= less,
+        _ => {
+            counts.swap_remove(&name);
         }
-    } else {
-        counts.swap_remove(&name);
     }
 }

@@ -1,8 +1,8 @@
 -- A server that begins: its root's shape, size, and how it hangs, and how it comes.
 use Rattle.std.proofs.Common.{Option, Some, None, not, [], ◌∷◌, ap, ◌≡◌, ◌≢◌, ◌∙◌, ℕ, Bool, true, false, true≢false, if◌then◌else◌, List, refl, sym}
-use Rattle.hurd_machine.proofs.Common.{Attach, AttrOf, BodyOf, Dir, DropServer, EOVERFLOW, ESRCH, EmptyOf, EndsOf, Header, IsShaped, Kind, Meaning, Mode, Name, Node, OptionsOf, Part, ServerInfo, Task, TaskOf, TextOf, TotalOf, World, active_at, begun_info, begun_root, boot_name, empty_body, fresh, given, header_at, home_at, is_dir, is_home, is_other, is_plain, is_tree, on, task_at}
+use Rattle.hurd_machine.proofs.Common.{Attach, AttrOf, BodyOf, Dir, DropServer, EOVERFLOW, ESRCH, EmptyOf, EndsOf, Header, IsShaped, Kind, Meaning, Mode, Name, Node, OptionsOf, Part, ServerInfo, Task, TaskOf, TextOf, TotalOf, World, active_at, begun_info, begun_root, boot_name, fresh, given, header_at, home_at, is_dir, is_home, is_other, is_plain, is_tree, on, root_body, task_at}
 use Rattle.hurd_trans_iface.specs.declared.root.Root.{Root}
-use Rattle.hurd_trans_iface.specs.Meaning.{root_of}
+use Rattle.hurd_trans_iface.specs.Meaning.{behaviour_of, root_of}
 use Rattle.hurd_trans_iface.proofs.BodyLaws.{begun_has, begun_holds}
 use Rattle.hurd_trans_iface.proofs.Goods.{tree-told}
 use Rattle.hurd_creds.proofs.NameLaws.{same_name-apart}
@@ -20,13 +20,13 @@ use Rattle.hurd_lookup.specs.Lent.{server_ids}
 use Rattle.hurd_fsys.specs.Setting.{root_kind, root_mode, seat_on}
 use Rattle.hurd_fsys.proofs.AimsLaws.{Aims}
 
-empty_shaped : (k : Kind) (h : Header) → h.kind ≡ k → IsShaped h (empty_body (is_dir k))
-empty_shaped Dir h e = e
-empty_shaped _ h e = rw e refl
+first_shaped : (k : Kind) (h : Header) (bs : List ℕ) → h.kind ≡ k → IsShaped h (root_body (is_dir k) bs)
+first_shaped Dir h bs e = e
+first_shaped _ h bs e = rw e refl
 
-empty_bare : (b : Bool) → HasNoEntries (empty_body b)
-empty_bare true = refl
-empty_bare false = tt
+first_bare : (b : Bool) (bs : List ℕ) → HasNoEntries (root_body b bs)
+first_bare true bs = refl
+first_bare false bs = tt
 
 plain_dir : (r : Root) → is_tree r ≡ true → is_dir r.kind ≡ true
 plain_dir r h = go (is_dir r.kind) h
@@ -54,14 +54,17 @@ module _ (w : World) (t : ℕ) (n : Name) (h : Header) (there : (k : Header) × 
   abbrev node : Node
   node = begun_root m h.owner h.group mode
 
+  abbrev first : List ℕ
+  first = (behaviour_of m.kind).first m.text
+
   pub newcomer : Comes w s n info node
   newcomer = record {
     next = fresh_next w t x is;
     task = refl;
     count = refl;
     serving = (h.owner, refl);
-    shape = empty_shaped (root_kind m) node.header refl;
-    empty = empty_bare (is_dir (root_kind m));
+    shape = first_shaped (root_kind m) node.header first refl;
+    empty = first_bare (is_dir (root_kind m)) first;
     parent = refl;
     kind = refl;
     aims = aims.count;

@@ -2,7 +2,8 @@
 use Rattle.std.proofs.Common.{◌≡◌, ◌⊎◌, ◌∙◌, sym, ℕ, ℤ, pos, negsuc, zero, suc, Bool, true, false, List, refl, inl, inr, ap, subst, min}
 use Rattle.std.specs.Prelude.{Result, Ok, length}
 use Rattle.hurd_machine.proofs.Common.{BodyOf, Change, Coherent, Did, Errno, Name, OnDid, Part, Question, READ, Reply, Seen, Sees, Sound, WRITE, World, asked_at, changes_of, counts_at, edits_of, handle_asks, is_refused, most_read, stream_at}
-use Rattle.hurd_trans_iface.specs.Kinds.{ServerKind, behaviour_of}
+use Rattle.hurd_trans_iface.specs.Kinds.{behaviour_of}
+use Rattle.hurd_trans_iface.specs.declared.begun.ServerKind.{ServerKind}
 use Rattle.hurd_trans_iface.specs.Good.{IsPlain as IsPlainAnswer}
 use Rattle.hurd_trans_iface.specs.Behaviour.{reading, writing}
 use Rattle.hurd_machine.specs.World.{readers_at, readers_in, writers_at, writers_in}

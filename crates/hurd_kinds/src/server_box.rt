@@ -1,17 +1,17 @@
 //! The server that some words make, in a box.
 ghost use Rattle.std.specs.Prelude.{◌≡◌, ◌≤◌, length, IfOk};
 ghost use Rattle.std.specs.Option.{option_map};
-ghost use Rattle.hurd_trans_iface.specs.HelloKind.{most_text};
-ghost use Rattle.hurd_trans_iface.specs.Meaning.{Tmpfs as TmpfsKind, begin, new_server};
-ghost use Rattle.hurd_trans_iface.specs.Sayings.{IsFit, server_said};
-ghost use Rattle.hurd_trans_iface.specs.TmpfsKind.{most_digits};
+ghost use Rattle.hurd_trans_iface.specs.Meaning.{begin, new_server};
+ghost use Rattle.hurd_trans_iface.specs.declared.begun.ServerKind.TheVariants.{Tmpfs as TmpfsKind};
+ghost use Rattle.hurd_trans_iface.specs.Sayings.{Fits, IsFit, server_said};
+ghost use Rattle.hurd_trans_iface.specs.Kinds.Tmpfs.{most_digits};
 ghost use Rattle.hurd_small.specs.FixedKinds.{kind_of};
 ghost use Rattle.hurd_tmpfs.specs.Tree.{new_tmpfs, tree};
 ghost use Rattle.hurd_kinds.specs.Boxes.{box_meaning};
 
 use hurd_small::{Drip, Fifo, FixedKind, FixedServer};
 use hurd_tmpfs::Tmpfs;
-use hurd_trans_iface::{Begun, Words, begun_by};
+use hurd_trans_iface::{Begun, ServerKind, Words, begun_by};
 use hurd_union::{Union, union_of};
 use std::alloc::{AllocError, Global};
 
@@ -26,9 +26,9 @@ pub enum ServerBox {
 }
 
 /// The server of this kind and text, of which nothing but options changes, in a box.
-#[tactic(auto, unfolding(crate::specs::Boxes::box_meaning))]
+#[tactic(auto, using(hurd_small::proofs::FixedLaws::kind_short), unfolding(crate::specs::Boxes::box_meaning))]
 fn fixed(alloc: Global, kind: FixedKind, text: &[u8]) -> Result<ServerBox, AllocError>
-    requires { length text.now ≤ most_text }
+    requires { Fits (kind_of kind) text.now }
     ensures { IfOk result (λ server. box_meaning server ≡ new_server (kind_of kind) text.now) }
 {
     let server = FixedServer::of_kind(alloc, kind, text)?;
@@ -50,17 +50,18 @@ fn boxed(alloc: Global, begun: Begun<'_>) -> Result<ServerBox, AllocError>
     requires { IsFit begun }
     ensures { IfOk result (λ server. box_meaning server ≡ server_said begun.entry) }
 {
-    Ok(match begun {
-        Begun::Tmpfs(digits) => ServerBox::Tmpfs(tree_with_limit(alloc, digits)?),
-        Begun::Hello(text) => fixed(alloc, FixedKind::Hello, text)?,
-        Begun::Null => fixed(alloc, FixedKind::Null, &[])?,
-        Begun::Zero => fixed(alloc, FixedKind::Zero, &[])?,
-        Begun::Symlink(path) => fixed(alloc, FixedKind::Symlink, path)?,
-        Begun::Firmlink(path) => fixed(alloc, FixedKind::Firmlink, path)?,
-        Begun::Union(paths) => ServerBox::Union(Box::new(alloc, union_of(alloc, paths)?)?),
-        Begun::Magic => fixed(alloc, FixedKind::Magic, b"fd")?,
-        Begun::Drip(digits) => ServerBox::Drip(Box::new(alloc, Drip::counted_by(alloc, digits)?)?),
-        Begun::Fifo => ServerBox::Fifo(Box::new(alloc, Fifo::empty())?),
+    let text = begun.text;
+    Ok(match begun.kind {
+        ServerKind::Tmpfs => ServerBox::Tmpfs(tree_with_limit(alloc, text)?),
+        ServerKind::Hello => fixed(alloc, FixedKind::Hello, text)?,
+        ServerKind::Null => fixed(alloc, FixedKind::Null, text)?,
+        ServerKind::Zero => fixed(alloc, FixedKind::Zero, text)?,
+        ServerKind::Symlink => fixed(alloc, FixedKind::Symlink, text)?,
+        ServerKind::Firmlink => fixed(alloc, FixedKind::Firmlink, text)?,
+        ServerKind::Union => ServerBox::Union(Box::new(alloc, union_of(alloc, begun.paths)?)?),
+        ServerKind::Magic => fixed(alloc, FixedKind::Magic, text)?,
+        ServerKind::Drip => ServerBox::Drip(Box::new(alloc, Drip::counted_by(alloc, text)?)?),
+        ServerKind::Fifo => ServerBox::Fifo(Box::new(alloc, Fifo::empty())?),
     })
 }
 

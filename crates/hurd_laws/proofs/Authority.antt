@@ -7,7 +7,9 @@ use Rattle.hurd_creds.specs.Access.{is_root, holds_uid, holds_gid}
 use Rattle.hurd_trans_iface.specs.Nodes.{Header, Node, is_dir}
 use Rattle.hurd_trans_iface.specs.Behaviour.{reading, size_left}
 use Rattle.hurd_trans_iface.specs.Totals.{counts_for}
-use Rattle.hurd_trans_iface.specs.Kinds.{ServerKind, Tmpfs, behaviour_of}
+use Rattle.hurd_trans_iface.specs.Kinds.{behaviour_of}
+use Rattle.hurd_trans_iface.specs.declared.begun.ServerKind.{ServerKind}
+use Rattle.hurd_trans_iface.specs.declared.begun.ServerKind.TheVariants.{Tmpfs}
 use Rattle.hurd_trans_iface.specs.Meaning.{keeps_tree, root_of}
 use Rattle.hurd_trans_iface.proofs.Goods.{good}
 use Rattle.hurd_nodes.specs.Needs.{streams_by}

@@ -17,6 +17,23 @@ pub there : (w : World) (n : Name) (o : Option Attrs) (b : Bool) → is_some o �
 there w n None b some off told = absurd (cc)
 there w n (Some a) b some off told = (header_with (words_at w n) a, sym told)
 
+-- the same of one that was asked on the way
+pub here_there : (w : World) (n : Name) (x : Here) → x.node ≡ n → IsHere w x → (b : Bool) → is_some x.attrs ≡ not b → b ≡ false → (h : Header) × (header_at w n ≡ Some h)
+here_there w n x at is b some off = let h = there w x.node x.attrs b some off is.0 in (h.0, ap (header_at w) (sym at) ∙ h.1)
+
+-- whether words are stored is told as it is
+waits_told : (w : World) (n : Name) (o : Option Node) (a : Option Attrs) → node_at w n ≡ o → a ≡ option_map attrs_of o
+    → option_map Waiting (passive_of o) ≡ (if tells_words a then Some (Waiting (words_in o)) else None)
+waits_told w n o a is told = rw told (by o)
+  where
+    by_words : (ws : List (List ℕ)) → option_map Waiting (some_words ws) ≡ (let c : Option Crossed = if has_words ws then Some (Waiting ws) else None in c)
+    by_words [] = refl
+    by_words (v ∷ vs) = refl
+
+    by : (p : Option Node) → option_map Waiting (passive_of p) ≡ (let c : Option Crossed = if tells_words (option_map attrs_of p) then Some (Waiting (words_in p)) else None in c)
+    by None = refl
+    by (Some x) = by_words x.header.passive
+
 module _ (w : World) (root : Name) (h : Header) (there : header_at w root ≡ Some h) (x : Root) (is : Some x ≡ option_map (λ (i : ServerInfo). root_of i.kind i.text) (info_at w root)) where
   -- the server whose root it is
   pub info-of : (i : ServerInfo) × (info_at w root ≡ Some i) × (root_of i.kind i.text ≡ x)

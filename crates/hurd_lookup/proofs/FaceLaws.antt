@@ -1,7 +1,7 @@
 -- What a lookup asks of a server goes by what is seen of it: a link alone leads on by its text.
 use Rattle.std.proofs.Common.{◌≡◌, ◌∙◌, ◌||◌, Bool, if◌then◌else◌, List, [], Option, Some, None, refl, ap, ℕ}
 use Rattle.std.specs.Prelude.{Result, Ok}
-use Rattle.hurd_trans_iface.specs.Kinds.{ServerKind}
+use Rattle.hurd_trans_iface.specs.declared.begun.ServerKind.{ServerKind}
 use Rattle.hurd_trans_iface.specs.Answers.{is_tree}
 use Rattle.hurd_trans_iface.specs.Texts.{is_link}
 use Rattle.hurd_trans_iface.specs.declared.root.Crossing.{Crossing}

@@ -1,5 +1,5 @@
 -- What is to be started first is the same in worlds that agree, and is where a walk can be; and how the code finds it.
-use Rattle.std.proofs.Common.{◌≡◌, ◌≢◌, ◌⊎◌, ◌∙◌, ◌<◌, ◌-◌, ℕ, zero, suc, Bool, true, false, true≢false, cond, if◌then◌else◌, ◌&&◌, is_some, codes, length, nat_le, List, [], ◌∷◌, Option, Some, None, refl, sym, ap, ap₂, subst, inl, inr, arith}
+use Rattle.std.proofs.Common.{◌≡◌, ◌≢◌, ◌⊎◌, ◌∙◌, ◌<◌, ◌-◌, ℕ, zero, suc, Bool, true, false, true≢false, cond, if◌then◌else◌, ◌&&◌, ◌||◌, not, is_some, codes, length, nat_le, List, [], ◌∷◌, Option, Some, None, refl, sym, ap, ap₂, subst, inl, inr, arith}
 use Rattle.std.specs.Prelude.{Result, Ok, Err, IfSome}
 use Rattle.std.specs.List.{list_all}
 use Rattle.std.specs.Option.{option_map, option_or}
@@ -7,9 +7,12 @@ use Rattle.std.specs.Str.{bytes_eq}
 use Rattle.std.proofs.lemmas.Slice.Eq.{bytes_eq-Decides}
 use Rattle.hurd_machine.proofs.Common.{BodyOf, ENOMEM, Errno, Header, IdSets, Meaning, Name, Node, Seen, Sees, Task, World, header_at, is_no_memory, node_at, task_at, words_at}
 use Rattle.hurd_creds.specs.declared.errno.Errno.TheVariants.{ELOOP}
-use Rattle.hurd_trans_iface.specs.FirmlinkKind.{firm_text, is_firm}
-use Rattle.hurd_trans_iface.specs.UnionKind.{most_branches, text_of, union_text}
-use Rattle.hurd_trans_iface.specs.Meaning.{ServerKind, Tmpfs, Hello, Null, Zero, Symlink, Firmlink, Union, Magic, Drip, Fifo, begin, begin_as, behaviour_of, new_server, targets_of}
+use Rattle.hurd_trans_iface.specs.Kinds.Firmlink.{firm_text, is_firm}
+use Rattle.hurd_trans_iface.specs.Kinds.Union.{most_branches, text_of, union_text}
+use Rattle.hurd_trans_iface.specs.Meaning.{all_kinds, begin, begin_among, begin_as, behaviour_of, new_server, targets_of}
+use Rattle.hurd_trans_iface.specs.declared.begun.ServerKind.{ServerKind}
+use Rattle.hurd_trans_iface.specs.declared.begun.ServerKind.TheVariants.{Firmlink, Union}
+use Rattle.hurd_trans_iface.proofs.Goods.{aimless}
 use Rattle.hurd_trans_iface.proofs.Options.{words_back}
 use Rattle.hurd_machine.specs.World.{nodes_of, words_in}
 use Rattle.hurd_machine.proofs.Piece.{Stands}
@@ -117,19 +120,43 @@ module _ (k : ServerKind) (none : (text : List ℕ) → targets_of k text ≡ []
 other_as : (k : ServerKind) (p : List ℕ) (ws : List (List ℕ)) → bytes_eq p (behaviour_of k).program ≡ false → aims_of (begin_as k (p ∷ ws)) ≡ []
 other_as k p ws other = ap (λ (b : Bool). aims_of (cond b (option_map (new_server k) ((behaviour_of k).begins ws)) None)) other
 
-others_aimless : (p : List ℕ) (ws : List (List ℕ)) → bytes_eq p (codes "/hurd/firmlink") ≡ false → bytes_eq p (codes "/hurd/union") ≡ false → aims_of (begin (p ∷ ws)) ≡ []
-others_aimless p ws firm union =
-    let made = λ (k : ServerKind). begin_as k (p ∷ ws) in
-    none_or (made Tmpfs) _ (aimless_as Tmpfs (λ t. refl) p ws)
-    (none_or (made Hello) _ (aimless_as Hello (λ t. refl) p ws)
-    (none_or (made Null) _ (aimless_as Null (λ t. refl) p ws)
-    (none_or (made Zero) _ (aimless_as Zero (λ t. refl) p ws)
-    (none_or (made Symlink) _ (aimless_as Symlink (λ t. refl) p ws)
-    (none_or (made Firmlink) _ (other_as Firmlink p ws firm)
-    (none_or (made Union) _ (other_as Union p ws union)
-    (none_or (made Magic) _ (aimless_as Magic (λ t. refl) p ws)
-    (none_or (made Drip) _ (aimless_as Drip (λ t. refl) p ws)
-    (none_or (made Fifo) None (aimless_as Fifo (λ t. refl) p ws) refl)))))))))
+-- the name of a program whose servers aim
+abbrev is_aiming : List ℕ → Bool
+is_aiming w = bytes_eq w (codes "/hurd/firmlink") || bytes_eq w (codes "/hurd/union")
+
+not_aiming : (p w : List ℕ) → bytes_eq p (codes "/hurd/firmlink") ≡ false → bytes_eq p (codes "/hurd/union") ≡ false → is_aiming w ≡ true → bytes_eq p w ≡ false
+not_aiming p w firm union is = by (bytes_eq w (codes "/hurd/firmlink")) refl (bytes_eq w (codes "/hurd/union")) refl is
+  where
+    by : (a : Bool) → bytes_eq w (codes "/hurd/firmlink") ≡ a → (b : Bool) → bytes_eq w (codes "/hurd/union") ≡ b → a || b ≡ true → bytes_eq p w ≡ false
+    by true e b also h = ap (bytes_eq p) ((bytes_eq-Decides w (codes "/hurd/firmlink")).0 e) ∙ firm
+    by false e true also h = ap (bytes_eq p) ((bytes_eq-Decides w (codes "/hurd/union")).0 also) ∙ union
+    by false e false also h = absurd (true≢false (sym h))
+
+-- a kind that aims is known by such a name
+abbrev is_known : ServerKind → Bool
+is_known k = not (behaviour_of k).aims || is_aiming (behaviour_of k).program
+
+all_known : list_all is_known all_kinds ≡ true
+all_known = refl
+
+and_both : (a b : Bool) → a && b ≡ true → (a ≡ true) × (b ≡ true)
+and_both true b h = (refl, h)
+and_both false b h = absurd (true≢false (sym h))
+
+module _ (p : List ℕ) (ws : List (List ℕ)) (firm : bytes_eq p (codes "/hurd/firmlink") ≡ false) (union : bytes_eq p (codes "/hurd/union") ≡ false) where
+  other_aimless : (k : ServerKind) → is_known k ≡ true → aims_of (begin_as k (p ∷ ws)) ≡ []
+  other_aimless k known = by (behaviour_of k).aims refl known
+    where
+      by : (b : Bool) → (behaviour_of k).aims ≡ b → not b || is_aiming (behaviour_of k).program ≡ true → aims_of (begin_as k (p ∷ ws)) ≡ []
+      by true is aiming = other_as k p ws (not_aiming p (behaviour_of k).program firm union aiming)
+      by false is aiming = aimless_as k (aimless k is) p ws
+
+  among_aimless : (ks : List ServerKind) → list_all is_known ks ≡ true → aims_of (begin_among ks (p ∷ ws)) ≡ []
+  among_aimless [] known = refl
+  among_aimless (k ∷ ks) known = let both = and_both (is_known k) (list_all is_known ks) known in none_or (begin_as k (p ∷ ws)) _ (other_aimless k both.0) (among_aimless ks both.1)
+
+  others_aimless : aims_of (begin (p ∷ ws)) ≡ []
+  others_aimless = among_aimless all_kinds all_known
 
 abbrev pub chosen : Bool → List (List ℕ) → List (List ℕ)
 chosen b ws = if b then ws else []

@@ -9,8 +9,8 @@ use Rattle.hurd_creds.specs.Memory.{is_no_memory}
 use Rattle.hurd_creds.specs.Access.{IdSets}
 use Rattle.hurd_trans_iface.specs.Nodes.{Header}
 use Rattle.hurd_trans_iface.specs.Meaning.{Meaning, begin, targets_of}
-use Rattle.hurd_trans_iface.specs.FirmlinkKind.{firm_text}
-use Rattle.hurd_trans_iface.specs.UnionKind.{union_text}
+use Rattle.hurd_trans_iface.specs.Kinds.Firmlink.{firm_text}
+use Rattle.hurd_trans_iface.specs.Kinds.Union.{union_text}
 use Rattle.hurd_machine.specs.World.{World, header_at, words_at}
 use Rattle.hurd_lookup.specs.declared.resolve.Landing.{Landing}
 use Rattle.hurd_lookup.specs.declared.resolve.Landing.TheVariants.{Lands, Sleeps}

@@ -5,7 +5,7 @@ use Rattle.hurd_creds.specs.declared.errno.Errno.{Errno}
 use Rattle.hurd_creds.specs.declared.errno.Errno.TheVariants.{EDIED, ELOOP, ENAMETOOLONG, ENOENT, ENOTDIR}
 use Rattle.hurd_creds.specs.Access.{IdSets}
 use Rattle.hurd_trans_iface.specs.Nodes.{is_dir}
-use Rattle.hurd_trans_iface.specs.SymlinkKind.{is_absolute}
+use Rattle.hurd_trans_iface.specs.Kinds.Symlink.{is_absolute}
 use Rattle.hurd_ports.specs.declared.parents.Parent.{Parent}
 use Rattle.hurd_machine.specs.World.{World, boot_root, header_at}
 use Rattle.hurd_machine.specs.Plan.{on, given, first}

@@ -6,9 +6,10 @@ ghost use Rattle.hurd_machine.specs.World.{World};
 ghost use Rattle.hurd_core.specs.Core.{world_of};
 ghost use Rattle.hurd_lookup.specs.Path.{names_in};
 ghost use Rattle.hurd_lookup.specs.Lookup.{Authority as AuthorityAt, cross, crossed_at, enter, follow, hold_on, is_last, root_on, to_cross};
-ghost use Rattle.hurd_lookup.specs.Ends.{CanGo, Finds, authority_of, crossed_of, place_of, text_at};
+ghost use Rattle.hurd_lookup.specs.Ends.{CanGo, Finds, IsHere, authority_of, crossed_of, place_of, text_at};
 
 use crate::authority::Authority;
+use crate::here::Here;
 use crate::request::Request;
 use crate::rest::{fits, is_last};
 use crate::retry::{Onward, Retry, text_at};
@@ -38,30 +39,35 @@ pub(crate) enum Crossed {
 }
 
 /// What there is to cross at a node: the server that is active there, or else the translator that waits there, if one does.
-fn crossed_at<S: Server>(core: &Core<S>, node: NodeName) -> Option<Crossed>
-    ensures { let w = world_of S.meaning core.now in option_map (crossed_of w node) result ≡ crossed_at w node }
+fn crossed_at<S: Server>(core: &Core<S>, here: Here) -> Option<Crossed>
+    requires { IsHere (world_of S.meaning core.now) here }
+    ensures { let w = world_of S.meaning core.now in option_map (crossed_of w here.node) result ≡ crossed_at w here.node }
 {
-    if core.active(node).is_some() {
-        let root = root_on(core, node)?;
+    if core.active(here.node).is_some() {
+        let root = root_on(core, here.node)?;
         return Some(Crossed::Active(root));
     }
-    core.passive(node)?;
-    Some(Crossed::Waiting)
+    if here.has_words() {
+        Some(Crossed::Waiting)
+    } else {
+        None
+    }
 }
 
 /// What is to be crossed at a node, before what is left of the path: nothing at the last node with `NOTRANS`.
 pub(crate) fn to_cross<S: Server>(
     core: &Core<S>,
     request: Request,
-    node: NodeName,
+    here: Here,
     rest: &[u8],
 ) -> Option<Crossed>
-    ensures { let w = world_of S.meaning core.now in option_map (crossed_of w node) result ≡ to_cross w request node (names_in rest.now) }
+    requires { IsHere (world_of S.meaning core.now) here }
+    ensures { let w = world_of S.meaning core.now in option_map (crossed_of w here.node) result ≡ to_cross w request here.node (names_in rest.now) }
 {
     if is_last(rest) && request.flags.asks(OpenFlags::NOTRANS) {
         None
     } else {
-        crossed_at(core, node)
+        crossed_at(core, here)
     }
 }
 
@@ -72,17 +78,17 @@ fn enter<'a>(
     authority: Authority,
     request: Request,
     dir: NodeName,
-    root: NodeName,
+    root: Here,
     rest: &'a [u8],
 ) -> Result<Place<'a>, Errno>
     ensures { (w : World) → let q = authority_of authority.entry in
-        Finds (place_of w q) (CanGo w q) (enter q request dir root (names_in rest.entry.now)) result }
+        IsHere w root → Finds (place_of w q) (CanGo w q) (enter q request dir root.node (names_in rest.entry.now)) result }
 {
     if authority.ways.is_full() {
         return Err(Errno::ELOOP);
     }
     let way = Parent {
-        at: root,
+        at: root.node,
         parent: dir,
     };
     if is_last(rest) {
@@ -181,22 +187,23 @@ pub(crate) fn cross<'a, S: Server>(
     ensures { let w = world_of S.meaning core.now in let q = authority_of authority.entry in
         Finds (place_of w q) (CanGo w q) (cross w q request dir root (names_in rest.entry.now)) result }
 {
-    if core.attrs(root).is_none() {
+    let here = Here::at(core, root);
+    if here.attrs.is_none() {
         return Err(Errno::EDIED);
     }
     let Some(served) = core.root(root) else {
         return Err(Errno::EDIED);
     };
     match served.crossing {
-        Crossing::Plain => enter(authority, request, dir, root, rest),
-        Crossing::Union => enter(authority, request, dir, root, rest),
+        Crossing::Plain => enter(authority, request, dir, here, rest),
+        Crossing::Union => enter(authority, request, dir, here, rest),
         Crossing::Firm => {
             let target = core.targets_at(root).first().copied();
             hold_on(core, authority, request, dir, target, rest)
         }
         Crossing::Link { absolute } => {
             if is_final(request, rest) {
-                return enter(authority, request, dir, root, rest);
+                return enter(authority, request, dir, here, rest);
             }
             follow(core, absolute, request, dir, root, rest)
         }

@@ -6,9 +6,10 @@ ghost use Rattle.hurd_trans_iface.specs.Nodes.{is_dir};
 ghost use Rattle.hurd_machine.specs.World.{info_at, is_text, only_reads};
 ghost use Rattle.hurd_core.specs.Core.{world_of};
 ghost use Rattle.hurd_lookup.specs.Lookup.{end_asks, make_asks, may_open, open_asks};
-ghost use Rattle.hurd_lookup.specs.Ends.{CanEnd, CanGo, Finds, authority_of, opened, outcome_of, place_of};
+ghost use Rattle.hurd_lookup.specs.Ends.{CanEnd, CanGo, Finds, IsHere, authority_of, opened, outcome_of, place_of};
 
 use crate::authority::Authority;
+use crate::here::Here;
 use crate::request::Request;
 use crate::retry::Retry;
 use crate::walk::Place;
@@ -68,12 +69,13 @@ fn open_asked<S: Server>(
     core: &Core<S>,
     ids: &Ids,
     request: Request,
-    node: NodeName,
+    here: Here,
 ) -> Result<(), Errno>
-    ensures { (ways : List Parent) → open_asks (world_of S.meaning core.now) ids.now request node ways
-        ≡ opened (record { node = node; ids = ids.now; parents = ways }) result }
+    requires { IsHere (world_of S.meaning core.now) here }
+    ensures { (ways : List Parent) → open_asks (world_of S.meaning core.now) ids.now request here.node ways
+        ≡ opened (record { node = here.node; ids = ids.now; parents = ways }) result }
 {
-    let Some(attrs) = core.attrs(node) else {
+    let Some(attrs) = here.attrs else {
         return Err(Errno::EDIED);
     };
     let is_dir = is_dir(attrs.kind);
@@ -84,7 +86,7 @@ fn open_asked<S: Server>(
     if is_dir && writes {
         return Err(Errno::EISDIR);
     }
-    if writes && only_reads(core, node) {
+    if writes && only_reads(core, here.node) {
         return Err(Errno::EROFS);
     }
     if !may_open(ids, &attrs, request.flags) {
@@ -148,9 +150,9 @@ pub(crate) fn end_asked<'a, S: Server>(
         Finds (outcome_of w q) (CanEnd w q) (end_asks w q request (place_of w q place.entry)) result }
 {
     match place {
-        Place::AtNode(node, entered) => {
-            open_asked(core, authority.ids, request, node)?;
-            Ok(Outcome::Opens(node, entered))
+        Place::AtNode(here, entered) => {
+            open_asked(core, authority.ids, request, here)?;
+            Ok(Outcome::Opens(here.node, entered))
         }
         Place::AtName(dir, name) => make_asked(core, authority, request, dir, name),
         Place::Elsewhere(retry) => Ok(Outcome::Retries(retry)),

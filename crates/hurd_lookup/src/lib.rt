@@ -13,6 +13,7 @@ mod cross;
 mod end;
 mod found;
 pub mod getroot;
+mod here;
 pub mod lent;
 pub mod lookup;
 pub mod nested;

@@ -10,6 +10,7 @@ ghost use Rattle.hurd_lookup.specs.Ends.{CanBe, Finds, found_of};
 use crate::authority::Authority;
 use crate::end::{Outcome, end_asked};
 use crate::found::FoundAt;
+use crate::here::Here;
 use crate::nested::first_unstarted;
 use crate::path;
 use crate::request::Request;
@@ -35,7 +36,8 @@ fn found_asked<'a, 'p, S: Server>(
         Finds (found_of w) (CanBe w) (found_asks w task.0 dir path.entry.now request) result }
 {
     let right = core.io_right(task, dir)?;
-    if core.attrs(right.node).is_none() {
+    let here = Here::at(core, right.node);
+    if here.attrs.is_none() {
         return Err(Errno::EDIED);
     }
     if !path::is_short(path) {
@@ -45,7 +47,7 @@ fn found_asked<'a, 'p, S: Server>(
         ids: &right.ids,
         ways: &right.parents,
     };
-    let place = walk(core, authority, request, right.node, path)?;
+    let place = walk(core, authority, request, here, path)?;
     let outcome = end_asked(core, authority, request, place)?;
     Ok(FoundAt { authority, outcome })
 }

@@ -1,6 +1,6 @@
 //! Which translator is to be started first, where a lookup comes to one that waits.
 ghost use Rattle.std.specs.Prelude.{◌≡◌, is_some};
-ghost use Rattle.hurd_trans_iface.specs.FirmlinkKind.{firm_text};
+ghost use Rattle.hurd_trans_iface.specs.Kinds.Firmlink.{firm_text};
 ghost use Rattle.hurd_machine.specs.World.{words_at};
 ghost use Rattle.hurd_core.specs.Core.{world_of};
 ghost use Rattle.hurd_lookup.specs.Nested.{FindsAsleep, FindsFirst, first_asleep, needed, passed, says_aims, words_aims};

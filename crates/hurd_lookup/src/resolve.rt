@@ -2,17 +2,19 @@
 ghost use Rattle.std.specs.Prelude.{◌≡◌, ◌<◌, [], ◌∷◌, List, Result, IfSome, IsOk, OnOk, length};
 ghost use Rattle.hurd_creds.specs.declared.name.Name.{Name};
 ghost use Rattle.hurd_creds.specs.declared.errno.Errno.{Errno as Refusal};
-ghost use Rattle.hurd_trans_iface.specs.SymlinkKind.{is_absolute};
+ghost use Rattle.hurd_trans_iface.specs.Kinds.Symlink.{is_absolute};
 ghost use Rattle.hurd_ports.specs.Limits.{most_parents};
 ghost use Rattle.hurd_ports.specs.declared.parents.Parent.{Parent};
+ghost use Rattle.hurd_machine.specs.World.{World};
 ghost use Rattle.hurd_core.specs.Core.{world_of};
-ghost use Rattle.hurd_lookup.specs.Ends.{CanGo, authority_of, name_of, place_of, port_by, way_of};
+ghost use Rattle.hurd_lookup.specs.Ends.{CanGo, IsHere, authority_of, name_of, place_of, port_by, way_of};
 ghost use Rattle.hurd_lookup.specs.Lookup.{AtNode};
 ghost use Rattle.hurd_lookup.specs.declared.resolve.Landing.{Landing as LandingAt};
 ghost use Rattle.hurd_lookup.specs.Resolve.{Leg as LegAt, from_top, landed, path_end, leg_asks, leg_at, resolve, resolve_all};
 ghost use Rattle.hurd_lookup.specs.Legs.{FindsLanding, Leads, OrLacks, lands, leg_of};
 
 use crate::authority::{Authority, NewPort};
+use crate::here::Here;
 use crate::path::is_short;
 use crate::request::Request;
 use crate::retry::Retry;
@@ -113,16 +115,16 @@ fn onward<S: Server>(
 ///
 /// Errors, in order: `EDIED` it is gone, `ENOTDIR` a directory is asked for.
 #[tactic(auto, unfolding(hurd_machine::specs::Plan::on, hurd_machine::specs::Plan::given))]
-fn landed<S: Server>(core: &Core<S>, request: Request, node: NodeName) -> Result<NodeName, Errno>
-    ensures { (onward : LegAt → Result LandingAt Refusal) (ways : List Parent) → lands result ≡ landed (world_of S.meaning core.now) request onward (AtNode node ways) }
+fn landed(request: Request, here: Here) -> Result<NodeName, Errno>
+    ensures { (w : World) → IsHere w here → (onward : LegAt → Result LandingAt Refusal) (ways : List Parent) → lands result ≡ landed w request onward (AtNode here.node ways) }
 {
-    let Some(attrs) = core.attrs(node) else {
+    let Some(attrs) = here.attrs else {
         return Err(Errno::EDIED);
     };
     if request.wants_dir && !is_dir(attrs.kind) {
         return Err(Errno::ENOTDIR);
     }
-    Ok(node)
+    Ok(here.node)
 }
 
 /// Where a walk ended.
@@ -141,8 +143,8 @@ fn ended<S: Server>(
         Leads w (λ onward. landed w request onward (place_of w (authority_of authority.entry) place.entry)) result }
 {
     match place {
-        Place::AtNode(node, _) => {
-            let node = landed(core, request, node)?;
+        Place::AtNode(here, _) => {
+            let node = landed(request, here)?;
             Ok(Looked::Ends(Landing::Lands(node)))
         }
         Place::AtName(_, _) => Err(Errno::ENOENT),
@@ -159,7 +161,8 @@ fn look<S: Server>(core: &Core<S>, alloc: Global, ids: &Ids, leg: Leg) -> Result
     ensures { let w = world_of S.meaning core.now in Leads w (leg_asks w ids.now (leg_of leg)) result }
 {
     let Leg { node, ways, path } = leg;
-    if core.attrs(node).is_none() {
+    let here = Here::at(core, node);
+    if here.attrs.is_none() {
         return Err(Errno::EDIED);
     }
     if !is_short(path.as_slice()) {
@@ -167,7 +170,7 @@ fn look<S: Server>(core: &Core<S>, alloc: Global, ids: &Ids, leg: Leg) -> Result
     }
     let authority = Authority { ids, ways: &ways };
     let request = Request::new(path.as_slice(), OpenFlags::empty(), Mode::empty());
-    let place = walk(core, authority, request, node, path.as_slice())?;
+    let place = walk(core, authority, request, here, path.as_slice())?;
     ended(core, alloc, authority, request, place)
 }
 

@@ -6,10 +6,11 @@ ghost use Rattle.hurd_machine.specs.Plan.{first};
 ghost use Rattle.hurd_core.specs.Core.{world_of};
 ghost use Rattle.hurd_lookup.specs.Path.{names_in};
 ghost use Rattle.hurd_lookup.specs.Lookup.{Authority as AuthorityAt, arrive, branch_in, came_in_at, go_back, go_into, is_exclusive, miss, over, shows_name, step_asks, step_by, step_up, stepped, to_cross, walk};
-ghost use Rattle.hurd_lookup.specs.Ends.{CanGo, Finds, Goes, authority_of, place_of};
+ghost use Rattle.hurd_lookup.specs.Ends.{CanGo, Finds, Goes, IsHere, authority_of, place_of};
 
 use crate::authority::Authority;
 use crate::cross::{Crossed, cross, to_cross};
+use crate::here::Here;
 use crate::path::first_name;
 use crate::request::Request;
 use crate::rest::is_last;
@@ -38,7 +39,7 @@ pub(crate) enum Next {
 #[derive(Clone, Copy, Debug)]
 pub(crate) enum Place<'a> {
     /// A node that is opened: of a server that was entered by a way, if one was.
-    AtNode(NodeName, Option<Parent>),
+    AtNode(Here, Option<Parent>),
     /// A name in a directory, under which a file is to be made.
     AtName(NodeName, &'a [u8]),
     /// A name that is looked up in another lookup.
@@ -50,7 +51,7 @@ pub(crate) enum Place<'a> {
 /// After one name: on at a node, or at the end.
 #[derive(Clone, Copy, Debug)]
 enum Step<'a> {
-    On(NodeName),
+    On(Here),
     To(Place<'a>),
 }
 
@@ -138,12 +139,13 @@ fn step_by<S: Server>(
 fn step_asked<S: Server>(
     core: &Core<S>,
     authority: Authority,
-    dir: NodeName,
+    here: Here,
     name: &[u8],
 ) -> Result<Next, Errno>
-    ensures { result ≡ step_asks (world_of S.meaning core.now) (authority_of authority.entry) dir name.now }
+    requires { IsHere (world_of S.meaning core.now) here }
+    ensures { result ≡ step_asks (world_of S.meaning core.now) (authority_of authority.entry) here.node name.now }
 {
-    let Some(attrs) = core.attrs(dir) else {
+    let Some(attrs) = here.attrs else {
         return Err(Errno::EDIED);
     };
     let Kind::Dir = attrs.kind else {
@@ -152,7 +154,7 @@ fn step_asked<S: Server>(
     if !authority.ids.may(&attrs, Want::Exec) {
         return Err(Errno::EACCES);
     }
-    step_by(core, authority, dir, &attrs, name)
+    step_by(core, authority, here.node, &attrs, name)
 }
 
 impl Request {
@@ -165,13 +167,13 @@ impl Request {
 
     /// At the end of the names. `EEXIST`: a node that is there is refused.
     #[tactic(auto, unfolding(hurd_machine::specs::Plan::given))]
-    fn arrive<'a>(self, node: NodeName) -> Result<Place<'a>, Errno>
-        ensures { (w : World) (q : AuthorityAt) → Finds (place_of w q) (CanGo w q) (arrive self q.ways node) result }
+    fn arrive<'a>(self, here: Here) -> Result<Place<'a>, Errno>
+        ensures { (w : World) (q : AuthorityAt) → IsHere w here → Finds (place_of w q) (CanGo w q) (arrive self q.ways here.node) result }
     {
         if self.is_exclusive() {
             return Err(Errno::EEXIST);
         }
-        Ok(Place::AtNode(node, None))
+        Ok(Place::AtNode(here, None))
     }
 
     /// A name that no entry has. `ENOENT`: it is not the last, a directory is asked for, or `CREATE` is not.
@@ -228,8 +230,9 @@ fn over<'a, S: Server>(
     ensures { let w = world_of S.meaning core.now in let q = authority_of authority.entry in let names = names_in rest.entry.now in
         Goes w q (λ onward. over w q request dir node (to_cross w request node names) names (onward node)) result }
 {
-    let Some(crossed) = to_cross(core, request, node, rest) else {
-        return Ok(Step::On(node));
+    let here = Here::at(core, node);
+    let Some(crossed) = to_cross(core, request, here, rest) else {
+        return Ok(Step::On(here));
     };
     if is_last(rest) && request.is_exclusive() {
         return Err(Errno::EEXIST);
@@ -263,17 +266,19 @@ fn stepped<'a, S: Server>(
     core: &Core<S>,
     authority: Authority,
     request: Request,
-    dir: NodeName,
+    here: Here,
     path: &'a [u8],
     name: &'a [u8],
     rest: &'a [u8],
 ) -> Result<Step<'a>, Errno>
-    requires { names_in path.now ≡ name.now ∷ names_in rest.now }
+    requires names { names_in path.now ≡ name.now ∷ names_in rest.now }
+    requires here { IsHere (world_of S.meaning core.now) here }
     ensures { let w = world_of S.meaning core.now in let q = authority_of authority.entry in
-        Goes w q (λ onward. first (step_asks w q dir name.entry.now) (stepped w q request dir name.entry.now (names_in rest.entry.now) onward)) result }
+        Goes w q (λ onward. first (step_asks w q here.node name.entry.now) (stepped w q request here.node name.entry.now (names_in rest.entry.now) onward)) result }
 {
-    match step_asked(core, authority, dir, name)? {
-        Next::There(node) => Ok(Step::On(node)),
+    let dir = here.node;
+    match step_asked(core, authority, here, name)? {
+        Next::There(node) => Ok(Step::On(Here::at(core, node))),
         Next::Entry(node) => over(core, authority, request, dir, node, rest),
         Next::Branch(branch) => Ok(Step::To(go_into(request, branch, path))),
         Next::Back => Ok(Step::To(go_back(core, authority, request, rest)?)),
@@ -281,24 +286,25 @@ fn stepped<'a, S: Server>(
     }
 }
 
-/// Goes from a node along the names of a path.
+/// Goes from a node along the names of a path. Each node on the way is asked once what it is.
 ///
 /// Errors, at each name: those of `stepped`; at the end `EEXIST`.
 pub(crate) fn walk<'a, S: Server>(
     core: &Core<S>,
     authority: Authority,
     request: Request,
-    start: NodeName,
+    start: Here,
     path: &'a [u8],
 ) -> Result<Place<'a>, Errno>
+    requires { IsHere (world_of S.meaning core.now) start }
     ensures { let w = world_of S.meaning core.now in let q = authority_of authority.entry in
-        Finds (place_of w q) (CanGo w q) (walk w q request start (names_in path.entry.now)) result }
+        Finds (place_of w q) (CanGo w q) (walk w q request start.node (names_in path.entry.now)) result }
 {
     let mut here = start;
     let mut rest = path;
     while let Some((name, after)) = first_name(rest) {
         match stepped(core, authority, request, here, rest, name, after)? {
-            Step::On(node) => here = node,
+            Step::On(next) => here = next,
             Step::To(place) => return Ok(place),
         }
         rest = after;

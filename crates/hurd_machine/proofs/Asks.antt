@@ -2,7 +2,8 @@
 use Rattle.std.proofs.Common.{List, ◌≡◌, ℕ, Bool, true, false, Option, Some, None, refl, sym, ◌∙◌, ap, ap₂, subst, true≢false, ◌&&◌}
 use Rattle.std.specs.Prelude.{if◌then◌else◌, not, is_some, nat_lt, Result, Ok, Err}
 use Rattle.hurd_machine.proofs.Common.{Body, BodyOf, Coherent, InRoot, faced, known_text, reads_text, server_at, with_text, EBADF, EDIED, EEXIST, EISDIR, ENOSPC, ENOTDIR, EOPNOTSUPP, EOVERFLOW, EROFS, ESRCH, EXDEV, Errno, Header, Holds, Io, IoRight, IsAmong, IsOpen, Kind, Name, Named, Node, OpenFlags, Plan, Question, READ, Reply, Right, Seen, Sees, ServerInfo, Task, WRITE, World, answered, are_kin, asked_at, asked_of, asks, counts_at, counts_by, edit_by, ends_at, entry_of, first, get, given, handle_asks, header_at, home_at, info_at, info_in, io_right_of, is_dir, is_made, is_no_memory, is_refused, is_root_at, is_server_root, is_taken, keeps_tree, link_by, link_in, links_at, makes_at, most_links, on, open_at, or_refuse, port_asks, ports_of, refuse, right_at, right_in, rights_of, sets_attrs_at, stream_at, task_at, task_of, tells, writing, EndsOf, counts_for, fitting, overfills, space_at}
-use Rattle.hurd_trans_iface.specs.Kinds.{ServerKind, behaviour_of}
+use Rattle.hurd_trans_iface.specs.Kinds.{behaviour_of}
+use Rattle.hurd_trans_iface.specs.declared.begun.ServerKind.{ServerKind}
 use Rattle.hurd_trans_iface.specs.Behaviour.{Effect, resizing, size_left}
 use Rattle.hurd_trans_iface.specs.Nodes.{linked}
 use Rattle.hurd_trans_iface.specs.Meaning.{root_of}

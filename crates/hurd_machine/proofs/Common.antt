@@ -32,7 +32,7 @@ pub use Rattle.hurd_trans_iface.specs.Answers.{edits_if, entry_in, entry_of, hea
 pub use Rattle.hurd_trans_iface.specs.Behaviour.{Did, Question, edit_bytes, edit_size, edits_of, fitting, resizing, writing}
 pub use Rattle.hurd_trans_iface.specs.Good.{GoodBehaviour}
 pub use Rattle.hurd_trans_iface.specs.Texts.{reads_text}
-pub use Rattle.hurd_trans_iface.specs.Meaning.{Meaning, counts_opens, empty_body, keeps_tree, limit_of, new_root, options_of, size_of}
+pub use Rattle.hurd_trans_iface.specs.Meaning.{Meaning, counts_opens, first_body, keeps_tree, limit_of, new_root, options_of, root_body, size_of}
 pub use Rattle.hurd_trans_iface.specs.Nodes.{AddNode, Body, Content, Edit, Header, IsShaped, Listing, Node, NodeMap, OnBody, OnHeader, body_of, edit_all, has_words, header_of, is_dir, is_empty_dir, is_entered, is_entered_at, is_listed, less_entry, moved_to, new_dir, new_file, node_of_edit, on_bytes, passive_of, some_words, unlinked, with_body, with_entry, with_header, with_passive, with_size, without_entry}
 pub use Rattle.hurd_trans_iface.specs.declared.header_edit.HeaderEdit.{HeaderEdit}
 pub use Rattle.hurd_trans_iface.specs.declared.new_node.NewNode.{NewNode}

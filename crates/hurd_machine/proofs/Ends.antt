@@ -5,7 +5,7 @@ use Rattle.std.specs.Option.{option_map}
 use Rattle.hurd_machine.proofs.Common.{MakeNode, Name, NameMap, Node, OpenMap, Opened, ServerInfo, Task, World, apply, counts_at, counts_by, counts_opens, edit, ends_at, ends_of, get, home_at, info_at, info_in, insert, is_end, is_held, keeps_tree, new_site, one_if, remove, same_name, with_text}
 use Rattle.hurd_creds.specs.Bits.{READ, WRITE}
 use Rattle.hurd_creds.proofs.NameLaws.{same_name-apart}
-use Rattle.hurd_trans_iface.specs.Meaning.{ServerKind}
+use Rattle.hurd_trans_iface.specs.declared.begun.ServerKind.{ServerKind}
 use Rattle.hurd_trans_iface.proofs.Goods.{good}
 use Rattle.hurd_nodes.proofs.Sites.{home-here}
 use Rattle.hurd_ports.specs.declared.table.Ends.{Ends}

@@ -1,7 +1,7 @@
 -- A server as whoever knows it sees it, and its text.
 use Rattle.std.proofs.Common.{if◌then◌else◌, ◌||◌, ◌≡◌, ℕ, Bool, true, false, List, [], Option, Some, None, sym, refl, ◌∙◌, ap, ap₂}
 use Rattle.std.specs.Option.{option_map}
-use Rattle.hurd_trans_iface.specs.Kinds.{ServerKind}
+use Rattle.hurd_trans_iface.specs.declared.begun.ServerKind.{ServerKind}
 use Rattle.hurd_trans_iface.specs.Meaning.{root_of}
 use Rattle.hurd_trans_iface.specs.Texts.{is_link}
 use Rattle.hurd_trans_iface.proofs.Goods.{good}

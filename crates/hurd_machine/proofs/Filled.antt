@@ -9,7 +9,8 @@ use Rattle.hurd_trans_iface.specs.Behaviour.{bytes_left, size_left}
 use Rattle.hurd_trans_iface.specs.Good.{KeepsSizes}
 use Rattle.hurd_trans_iface.specs.Bodies.{MayHold, MayHave}
 use Rattle.hurd_trans_iface.proofs.BodyLaws.{KeepsBody, have_as, less_holds, size_has, tree_holds, tree_has}
-use Rattle.hurd_trans_iface.specs.Kinds.{ServerKind, behaviour_of}
+use Rattle.hurd_trans_iface.specs.Kinds.{behaviour_of}
+use Rattle.hurd_trans_iface.specs.declared.begun.ServerKind.{ServerKind}
 use Rattle.hurd_machine.specs.World.{nodes_of}
 use Rattle.hurd_machine.proofs.Stays.{sweep, info_still}
 use Rattle.hurd_machine.proofs.Sweeps.{settle_by}

@@ -5,7 +5,8 @@ use Rattle.std.proofs.lemmas.Bool.Decides.{nat_tests}
 use Rattle.hurd_machine.proofs.Common.{AttrOf, BodyOf, Change, Coherent, EEXIST, EISDIR, ENOSPC, ENOTDIR, EOVERFLOW, EROFS, EXDEV, EditBody, EditHeader, EmptyOf, Errno, GoodBehaviour, Header, LeadsUp, Name, Node, Part, Seen, ServerInfo, Sound, World, apply, are_kin, body_at, empty, entry_of, get, home_at, info_at, info_in, is_dir, keeps_tree, link_by, link_in, links_at, most_links, tree_by, with_entry, counts_for, overfills, space_at}
 use Rattle.hurd_creds.proofs.NameLaws.{equal_if_same}
 use Rattle.hurd_trans_iface.specs.Nodes.{linked}
-use Rattle.hurd_trans_iface.specs.Kinds.{ServerKind, behaviour_of}
+use Rattle.hurd_trans_iface.specs.Kinds.{behaviour_of}
+use Rattle.hurd_trans_iface.specs.declared.begun.ServerKind.{ServerKind}
 use Rattle.hurd_machine.specs.World.{nodes_of}
 use Rattle.hurd_machine.proofs.Nodes.{header_in, body_in}
 use Rattle.hurd_machine.proofs.Coherence.{IsEntry, AllProper}

@@ -8,7 +8,8 @@ use Rattle.hurd_creds.proofs.NameLaws.{equal_if_same, get_here, get_apart, same_
 use Rattle.hurd_trans_iface.specs.Nodes.{Entry}
 use Rattle.hurd_trans_iface.specs.Answers.{node_of_kind}
 use Rattle.hurd_trans_iface.proofs.BodyLaws.{tree_has, tree_holds}
-use Rattle.hurd_trans_iface.specs.Kinds.{ServerKind, behaviour_of}
+use Rattle.hurd_trans_iface.specs.Kinds.{behaviour_of}
+use Rattle.hurd_trans_iface.specs.declared.begun.ServerKind.{ServerKind}
 use Rattle.hurd_nodes.specs.Shown.{made_by}
 use Rattle.hurd_ports.specs.Steps.{named}
 use Rattle.hurd_machine.specs.World.{nodes_of}

@@ -5,7 +5,8 @@ use Rattle.std.proofs.lemmas.Slice.Eq.{bytes_eq-Decides}
 use Rattle.hurd_machine.proofs.Common.{AreDistinct, AttrOf, Body, BodyOf, Change, Coherent, Content, Dir, EditBody, EditHeader, EmptyOf, GoodBehaviour, HasDistinctNames, Header, IsShaped, Linked, Listing, Name, Node, NodeMap, Part, Sees, World, apply, apply_all, body_at, bytes_eq, count_list, edit, entry_in, entry_of, get, header_at, header_of, info_at, insert, is_dir, is_of, less_entry, list_any, lists, lists_at, one_if, same_name, times_in, times_listed, tree_by, unlinked, with_body, with_header, without_entry, Seen}
 use Rattle.hurd_creds.proofs.NameLaws.{same_name-itself, same_name-apart, edit_found}
 use Rattle.hurd_trans_iface.specs.Nodes.{Entry}
-use Rattle.hurd_trans_iface.specs.Kinds.{ServerKind, behaviour_of}
+use Rattle.hurd_trans_iface.specs.Kinds.{behaviour_of}
+use Rattle.hurd_trans_iface.specs.declared.begun.ServerKind.{ServerKind}
 use Rattle.hurd_machine.specs.World.{nodes_of}
 use Rattle.hurd_machine.proofs.Nodes.{header_in, body_in, node_of_header, header-with_body, edit_keeps, node_of_body}
 use Rattle.hurd_machine.proofs.Listed.{times_edited, times_named, dir_kind}

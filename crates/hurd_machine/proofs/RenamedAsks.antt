@@ -4,10 +4,10 @@ use Rattle.std.specs.Prelude.{nat_lt}
 use Rattle.std.specs.Option.{option_map}
 use Rattle.hurd_trans_iface.specs.Answers.{link_in, link_of, make_of, rename_of, rename_to, set_header_of, unlink_of}
 use Rattle.hurd_trans_iface.specs.Behaviour.{Effect, effect_on, reading, resizing, size_left}
-use Rattle.hurd_trans_iface.specs.FifoKind.{fifo_read, fifo_write}
-use Rattle.hurd_trans_iface.specs.Meaning.{ServerKind, Tmpfs, Hello, Null, Zero, Symlink, Firmlink, Union, Magic, Drip, Fifo, behaviour_of}
+use Rattle.hurd_trans_iface.specs.Meaning.{behaviour_of}
+use Rattle.hurd_trans_iface.specs.declared.begun.ServerKind.{ServerKind}
 use Rattle.hurd_trans_iface.specs.Nodes.{linked}
-use Rattle.hurd_trans_iface.specs.TmpfsKind.{bytes_in, read_bytes}
+use Rattle.hurd_trans_iface.proofs.Goods.{nameless}
 use Rattle.hurd_nodes.specs.Shown.{info_taken, made_by, readable_by, rename_by, unlink_by}
 use Rattle.hurd_machine.proofs.Common.{Body, Content, EEXIST, EISDIR, ENOENT, ENOSPC, ENOTDIR, EOVERFLOW, EROFS, EXDEV, EOPNOTSUPP, Errno, Header, Kind, Listing, Name, Node, Question, ServerInfo, World, are_kin, asked_at, asked_of, counts_for, edit_by, fitting, get, home_at, info_at, is_dir, is_made, keeps_tree, link_by, links_at, makes_at, most_links, overfills, renames_at, sets_attrs_at, space_at, takes_options, writing}
 use Rattle.hurd_machine.specs.World.{count_in, readable_at, unlinks_at}
@@ -23,69 +23,17 @@ module _ (f : OtherNames) where
   abbrev pub IsNameless : {T : Type 0} → Question T → Type 0
   IsNameless q = (k : ServerKind) (text : List ℕ) (x : Node) → q (behaviour_of k) text (node_renamed f.to x) ≡ q (behaviour_of k) text x
 
-  read_bytes-renamed : (at amount : ℕ) (b : Body) → read_bytes at amount (body_renamed f.to b) ≡ read_bytes at amount b
-  read_bytes-renamed at amount (Content bs) = refl
-  read_bytes-renamed at amount (Listing es) = refl
-
-  bytes_in-renamed : (b : Body) → bytes_in (body_renamed f.to b) ≡ bytes_in b
-  bytes_in-renamed (Content bs) = refl
-  bytes_in-renamed (Listing es) = refl
-
-  fifo_read-renamed : (writers amount : ℕ) (b : Body) → fifo_read writers (body_renamed f.to b) amount ≡ fifo_read writers b amount
-  fifo_read-renamed writers amount (Content bs) = refl
-  fifo_read-renamed writers amount (Listing es) = refl
-
-  fifo_write-renamed : (readers : ℕ) (bs : List ℕ) (b : Body) → fifo_write readers (body_renamed f.to b) bs ≡ fifo_write readers b bs
-  fifo_write-renamed readers bs (Content old) = refl
-  fifo_write-renamed readers bs (Listing es) = refl
-
   pub reading-renamed : (at amount writers : ℕ) → IsNameless (reading at amount writers)
-  reading-renamed at amount writers Tmpfs text x = read_bytes-renamed at amount x.body
-  reading-renamed at amount writers Hello text x = refl
-  reading-renamed at amount writers Null text x = refl
-  reading-renamed at amount writers Zero text x = refl
-  reading-renamed at amount writers Symlink text x = refl
-  reading-renamed at amount writers Firmlink text x = refl
-  reading-renamed at amount writers Union text x = refl
-  reading-renamed at amount writers Magic text x = refl
-  reading-renamed at amount writers Drip text x = refl
-  reading-renamed at amount writers Fifo text x = fifo_read-renamed writers amount x.body
+  reading-renamed at amount writers k text x = (nameless k).read at amount writers f.to text x
 
   pub writing-renamed : (at : ℕ) (bs : List ℕ) (readers : ℕ) → IsNameless (writing at bs readers)
-  writing-renamed at bs readers Tmpfs text x = refl
-  writing-renamed at bs readers Hello text x = refl
-  writing-renamed at bs readers Null text x = refl
-  writing-renamed at bs readers Zero text x = refl
-  writing-renamed at bs readers Symlink text x = refl
-  writing-renamed at bs readers Firmlink text x = refl
-  writing-renamed at bs readers Union text x = refl
-  writing-renamed at bs readers Magic text x = refl
-  writing-renamed at bs readers Drip text x = refl
-  writing-renamed at bs readers Fifo text x = fifo_write-renamed readers bs x.body
+  writing-renamed at bs readers k text x = (nameless k).write at bs readers f.to text x
 
   pub resizing-renamed : (size : ℕ) → IsNameless (resizing size)
-  resizing-renamed size Tmpfs text x = refl
-  resizing-renamed size Hello text x = refl
-  resizing-renamed size Null text x = refl
-  resizing-renamed size Zero text x = refl
-  resizing-renamed size Symlink text x = refl
-  resizing-renamed size Firmlink text x = refl
-  resizing-renamed size Union text x = refl
-  resizing-renamed size Magic text x = refl
-  resizing-renamed size Drip text x = refl
-  resizing-renamed size Fifo text x = refl
+  resizing-renamed size k text x = (nameless k).set_size size f.to text x
 
   readable-renamed : (k : ServerKind) (text : List ℕ) (x : Node) (at : ℕ) → (behaviour_of k).readable text (node_renamed f.to x) at ≡ (behaviour_of k).readable text x at
-  readable-renamed Tmpfs text x at = refl
-  readable-renamed Hello text x at = refl
-  readable-renamed Null text x at = refl
-  readable-renamed Zero text x at = refl
-  readable-renamed Symlink text x at = refl
-  readable-renamed Firmlink text x at = refl
-  readable-renamed Union text x at = refl
-  readable-renamed Magic text x at = refl
-  readable-renamed Drip text x at = refl
-  readable-renamed Fifo text x at = bytes_in-renamed x.body
+  readable-renamed k text x at = (nameless k).readable f.to text x at
 
   -- what a node counts for has no names in it
 

@@ -4,7 +4,8 @@ use Rattle.std.specs.Option.{option_map}
 use Rattle.hurd_machine.proofs.Common.{AreDistinct, AttrOf, Below, Body, BodyOf, Change, Coherent, Content, Dir, EditBody, EditHeader, EmptyOf, GoodBehaviour, HasDistinctNames, Header, LeadsUp, Linked, Listing, Name, Node, Part, Seen, Sees, World, apply, body_at, bytes_eq, empty, entry_in, entry_of, get, header_at, home_at, info_at, info_in, is_dir, less_entry, lists_at, moved_to, tree_by, with_body, with_entry, with_header, without_entry}
 use Rattle.hurd_creds.proofs.NameLaws.{same_or_apart, edit_apart}
 use Rattle.hurd_trans_iface.specs.Nodes.{Entry}
-use Rattle.hurd_trans_iface.specs.Kinds.{ServerKind, behaviour_of}
+use Rattle.hurd_trans_iface.specs.Kinds.{behaviour_of}
+use Rattle.hurd_trans_iface.specs.declared.begun.ServerKind.{ServerKind}
 use Rattle.hurd_machine.specs.World.{nodes_of}
 use Rattle.hurd_machine.proofs.Nodes.{header_in, body_in, edit_keeps, edit_reads, header-with_header, header-with_body, body-with_header, body-with_body, node_of_body}
 use Rattle.hurd_machine.proofs.Listed.{dir_kind}

@@ -4,7 +4,7 @@ use Rattle.std.specs.Prelude.{Result, Ok, Err}
 use Rattle.std.proofs.lemmas.Bool.{cases_Bool}
 use Rattle.hurd_machine.proofs.Common.{Did, ENOSPC, Errno, Header, Name, OfNode, Seen, Sees, ServerInfo, TotalOf, World, counts_for, fitting, home_at, keeps_tree, limit_by, limit_of, overfills, server_at, space_at, space_with, total_at, total_if, tree_by}
 use Rattle.hurd_trans_iface.specs.Behaviour.{Effect, size_left}
-use Rattle.hurd_trans_iface.specs.Kinds.{ServerKind}
+use Rattle.hurd_trans_iface.specs.declared.begun.ServerKind.{ServerKind}
 use Rattle.hurd_trans_iface.proofs.Goods.{good}
 use Rattle.hurd_nodes.specs.Shown.{space_for}
 use Rattle.hurd_machine.specs.World.{nodes_of}

@@ -4,7 +4,7 @@ use Rattle.std.specs.Option.{option_map}
 use Rattle.std.specs.FinMap as fin
 use Rattle.hurd_creds.specs.declared.name.Name.{Name}
 use Rattle.hurd_creds.specs.NameMaps.{NameMap, keyed}
-use Rattle.hurd_trans_iface.specs.Nodes.{Node, Header, Body, Content, Listing, Entry}
+pub use Rattle.hurd_trans_iface.specs.Renamed.{header_renamed, entry_renamed, body_renamed, node_renamed}
 use Rattle.hurd_nodes.specs.declared.seat.Site.{Site}
 use Rattle.hurd_nodes.specs.Shown.{ServerInfo, boot_name}
 use Rattle.hurd_ports.specs.declared.parents.Parent.{Parent}
@@ -32,23 +32,6 @@ unfoldable pub map_renamed : {X Y : Type 0} → (Name → Name) → (X → Y) �
 map_renamed f g m = keyed (λ e. f e.0) (λ e. g e.1) (fin.entries m)
 
 module _ (f : Name → Name) where
-  -- a header names a parent
-  abbrev pub header_renamed : Header → Header
-  header_renamed h = record h { parent = option_map f h.parent }
-
-  -- an entry names a node
-  abbrev pub entry_renamed : Entry → Entry
-  entry_renamed e = record e { node = f e.node }
-
-  -- a directory names what its entries do
-  abbrev pub body_renamed : Body → Body
-  body_renamed (Content bs) = Content bs
-  body_renamed (Listing es) = Listing (map entry_renamed es)
-
-  -- a node, whose header and body have names
-  abbrev pub node_renamed : Node → Node
-  node_renamed x = record { header = header_renamed x.header; body = body_renamed x.body }
-
   -- a site names its node's server, and the one that is active there
   abbrev pub site_renamed : Site → Site
   site_renamed r = record { home = f r.home; active = option_map f r.active }

@@ -1,14 +1,13 @@
 -- Nodes are filled as their servers have them, and nothing is to be taken out, where things have other names.
-use Rattle.std.proofs.Common.{◌≡◌, ◌∙◌, ◌||◌, ◌&&◌, ℕ, Bool, true, List, Option, Some, None, map, refl, sym, ap, ap₂}
+use Rattle.std.proofs.Common.{◌≡◌, ◌∙◌, ◌||◌, ◌&&◌, Bool, true, Option, Some, None, refl, sym, ap, ap₂}
 use Rattle.std.specs.Option.{option_map}
-use Rattle.hurd_trans_iface.specs.Bodies.{MayHold}
-use Rattle.hurd_trans_iface.specs.Meaning.{ServerKind, Tmpfs, Hello, Null, Zero, Symlink, Firmlink, Union, Magic, Drip, Fifo, behaviour_of}
+use Rattle.hurd_trans_iface.proofs.Goods.{nameless}
 use Rattle.hurd_nodes.specs.Settle.{any_in, stays_by, stays_with}
 use Rattle.hurd_nodes.proofs.PartLaws.{any_in-found, any_in-here, same_bool}
-use Rattle.hurd_machine.proofs.Common.{AreFilled, AtRest, Body, Content, IsFilled, Listing, Name, NameMap, Node, Opened, ServerInfo, Site, World, get, home_at, info_at, is_entered_at, is_held, is_home, is_listed, namings, same_name, server_at, server_of, stays}
+use Rattle.hurd_machine.proofs.Common.{AreFilled, AtRest, IsFilled, Name, NameMap, Node, Opened, ServerInfo, Site, World, get, home_at, info_at, is_entered_at, is_held, is_home, is_listed, namings, same_name, server_at, server_of, stays}
 use Rattle.hurd_machine.specs.Change as change
 use Rattle.hurd_machine.specs.World.{nodes_of}
-use Rattle.hurd_machine.specs.Renamed.{OtherNames, body_renamed, entry_renamed, info_renamed, map_renamed, node_renamed, open_renamed, renamed, site_renamed}
+use Rattle.hurd_machine.specs.Renamed.{OtherNames, info_renamed, map_renamed, node_renamed, open_renamed, renamed, site_renamed}
 use Rattle.hurd_machine.proofs.RenamedMaps.{get-renamed, same_name-renamed}
 use Rattle.hurd_machine.proofs.RenamedNodes.{boot_name-renamed, home_at-renamed, is_entered_at-renamed, is_home-renamed, is_listed-renamed, node_at-renamed}
 use Rattle.hurd_machine.proofs.RenamedServers.{info_at-renamed, server_at-renamed}
@@ -16,38 +15,8 @@ use Rattle.hurd_machine.proofs.RenamedTasks.{is_controlled-renamed, is_held-rena
 use Rattle.hurd_names.proofs.FoundRenamed.{of_found, of_mapped}
 
 module _ (f : OtherNames) where
-  -- a body has as many bytes
-
-  sized : (k : ServerKind) (text : List ℕ) (b : Body) → (behaviour_of k).size text (body_renamed f.to b) ≡ (behaviour_of k).size text b
-  sized k text (Content bs) = refl
-  sized Tmpfs text (Listing es) = refl
-  sized Hello text (Listing es) = refl
-  sized Null text (Listing es) = refl
-  sized Zero text (Listing es) = refl
-  sized Symlink text (Listing es) = refl
-  sized Firmlink text (Listing es) = refl
-  sized Union text (Listing es) = refl
-  sized Magic text (Listing es) = refl
-  sized Drip text (Listing es) = refl
-  sized Fifo text (Listing es) = refl
-
-  -- and holds what it may
-
-  may_hold : (k : ServerKind) (b : Body) → MayHold k b → MayHold k (body_renamed f.to b)
-  may_hold k (Content bs) may = may
-  may_hold Tmpfs (Listing es) may = tt
-  may_hold Hello (Listing es) may = ap (map (entry_renamed f.to)) may
-  may_hold Null (Listing es) may = ap (map (entry_renamed f.to)) may
-  may_hold Zero (Listing es) may = ap (map (entry_renamed f.to)) may
-  may_hold Symlink (Listing es) may = ap (map (entry_renamed f.to)) may
-  may_hold Firmlink (Listing es) may = ap (map (entry_renamed f.to)) may
-  may_hold Union (Listing es) may = ap (map (entry_renamed f.to)) may
-  may_hold Magic (Listing es) may = ap (map (entry_renamed f.to)) may
-  may_hold Drip (Listing es) may = tt
-  may_hold Fifo (Listing es) may = may
-
   filled : (i : ServerInfo) (x : Node) → IsFilled i x → IsFilled (info_renamed f.to i) (node_renamed f.to x)
-  filled i x is = (is.0 ∙ sym (sized i.kind i.text x.body), may_hold i.kind x.body is.1, is.2)
+  filled i x is = (is.0 ∙ sym ((nameless i.kind).size f.to i.text x.body), (nameless i.kind).holds f.to x.body ∙ is.1, is.2)
 
   -- whether something in a map passes a test that holds of other names alike
   module _ {X Y : Type 0} (g : X → Y) (p : Name → X → Bool) (q : Name → Y → Bool) (same : (n : Name) (x : X) → q (f.to n) (g x) ≡ p n x) where

@@ -1,5 +1,6 @@
 //! Sites and seats by name.
-ghost use Rattle.std.specs.Prelude.{◌≡◌, ◌<◌, ◌≤◌, ◌⊎◌, ℕ, is_some, length, Some, None, option_and_then, IfOk, IfSome};
+ghost use Rattle.std.specs.Option.{option_map};
+ghost use Rattle.std.specs.Prelude.{◌≡◌, ◌<◌, ◌≤◌, ◌⊎◌, ℕ, is_some, length, slice_get, Some, None, option_and_then, IfOk, IfSome};
 ghost use Rattle.std.specs.FinMap as fin;
 ghost use Rattle.indexmap.specs.IndexMap.{spare};
 ghost use Rattle.hurd_creds.specs.NameMaps.{edit, place_by};
@@ -23,11 +24,24 @@ pub(crate) fn home_of(sites: &Sites, node: NodeName) -> Option<ServerName>
     Some(sites.get(&node)?.home)
 }
 
-/// The index of the seat of a server.
+/// Whether the first seat is that of this server.
+fn is_first<S>(seats: &Seats<S>, name: ServerName) -> bool
+    ensures { result ≡ is_home name (option_map seat_key (slice_get seats.now.entries 0)) }
+{
+    match seats.get_index(0) {
+        Some((first, _)) => name == *first,
+        None => false,
+    }
+}
+
+/// The index of the seat of a server. The first seat is looked at first: where there is one server alone, that is it.
 pub(crate) fn place_of_seat<S>(seats: &Seats<S>, name: ServerName) -> Option<usize>
     ensures is { result ≡ place_by seat_key name seats.now.entries }
     ensures below { IfSome result (λ i. i < length seats.now.entries) }
 {
+    if is_first(seats, name) {
+        return Some(0);
+    }
     seats.get_index_of(&name)
 }
 

@@ -7,8 +7,8 @@ use Rattle.hurd_creds.specs.declared.errno.Errno.TheVariants.{EIO, ENOENT, ELOOP
 use Rattle.hurd_creds.specs.declared.mode.Mode.{Mode}
 use Rattle.hurd_creds.specs.declared.open_flags.OpenFlags.{OpenFlags}
 use Rattle.hurd_trans_iface.specs.Meaning.{Meaning}
-use Rattle.hurd_trans_iface.specs.HelloKind.{behind}
-use Rattle.hurd_trans_iface.specs.SymlinkKind.{is_absolute}
+use Rattle.hurd_trans_iface.specs.Kinds.Hello.{behind}
+use Rattle.hurd_trans_iface.specs.Kinds.Symlink.{is_absolute}
 use Rattle.hurd_lookup.specs.Path.{is_slash_byte}
 use Rattle.hurd_creds.specs.Numbers.{long_number_of}
 use Rattle.hurd_machine.specs.declared.call.Call.TheVariants.{DirLookup, IoReauthenticate, FsysStartup, StartFailed}

@@ -2,7 +2,7 @@
 ghost use Rattle.std.specs.Prelude.{◌≡◌, ◌++◌, ◌∷◌, [], ℕ, List, suc, codes, Result, Ok, Err, IfOk, OnOk};
 ghost use Rattle.std.specs.Option.{option_map};
 ghost use Rattle.hurd_creds.specs.declared.errno.Errno.{Errno};
-ghost use Rattle.hurd_trans_iface.specs.HelloKind.{behind};
+ghost use Rattle.hurd_trans_iface.specs.Kinds.Hello.{behind};
 ghost use Rattle.hurd_machine.specs.World.{World as Seen};
 ghost use Rattle.hurd_world.specs.Held.{world_of};
 ghost use Rattle.hurd_shell.specs.Programs.{gives};

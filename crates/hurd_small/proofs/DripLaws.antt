@@ -7,8 +7,8 @@ use Rattle.hurd_creds.specs.declared.errno.Errno.TheVariants.{EIO}
 use Rattle.hurd_creds.proofs.StepLaws.{steps-refused}
 use Rattle.hurd_trans_iface.specs.Nodes.{Content, Node, on_bytes, with_size}
 use Rattle.hurd_trans_iface.specs.Behaviour.{served}
-use Rattle.hurd_trans_iface.specs.DripKind.{dripped, drop_byte, drops_of, most_drops}
-use Rattle.hurd_trans_iface.specs.Meaning.{Drip}
+use Rattle.hurd_trans_iface.specs.Kinds.Drip.{dripped, drop_byte, drops_of, most_drops}
+use Rattle.hurd_trans_iface.specs.declared.begun.ServerKind.TheVariants.{Drip}
 use Rattle.hurd_small.specs.declared.presence.LoneNode.{LoneNode}
 use Rattle.hurd_small.specs.Lone.{node_of}
 

@@ -1,3 +1,4 @@
 pub mod LoneLaws
 pub mod DripLaws
 pub mod PipeLaws
+pub mod FixedLaws

@@ -15,7 +15,8 @@ use Rattle.hurd_creds.proofs.StepLaws.{steps-inside, steps-refused}
 use Rattle.hurd_trans_iface.specs.declared.header_edit.HeaderEdit.{HeaderEdit}
 use Rattle.hurd_trans_iface.specs.Nodes.{AllListed, Body, Node, NodeMap, body_of, is_dir, is_entered_at, passive_of, with_header, with_size}
 use Rattle.hurd_trans_iface.specs.Answers.{entry_of, unlink_of}
-use Rattle.hurd_trans_iface.specs.Meaning.{Meaning, ServerKind, behaviour_of, root_of, keeps_tree, empty_body, new_root, begin_root_after, step_of, options_taken, resized, set_options_step, size_of, space_of, unlink_step, forget_after, edit_header_step}
+use Rattle.hurd_trans_iface.specs.Meaning.{Meaning, behaviour_of, root_of, keeps_tree, new_root, root_body, begin_root_after, step_of, options_taken, resized, set_options_step, size_of, space_of, unlink_step, forget_after, edit_header_step}
+use Rattle.hurd_trans_iface.specs.declared.begun.ServerKind.{ServerKind}
 use Rattle.hurd_trans_iface.specs.Behaviour.{Effect, Question, fitting, told_of, served}
 use Rattle.hurd_trans_iface.specs.Good.{KeepsRoot}
 use Rattle.hurd_trans_iface.specs.Totals.{space_with, total_in}
@@ -24,7 +25,7 @@ use Rattle.hurd_trans_iface.proofs.NodeSteps.{step-node, told-here}
 use Rattle.hurd_small.specs.declared.presence.LoneNode.{LoneNode}
 use Rattle.hurd_small.specs.declared.presence.Presence.{Presence}
 use Rattle.hurd_small.specs.declared.presence.Presence.TheVariants.{Nameless, There, Forgotten}
-use Rattle.hurd_small.specs.Lone.{filled, body_with, node_of, nodes_of, root_name, lone_meaning, barred_by, text_taken}
+use Rattle.hurd_small.specs.Lone.{body_with, node_of, nodes_of, root_name, lone_meaning, barred_by, text_taken}
 
 -- maps of one value, and of none
 
@@ -81,7 +82,7 @@ unlink-plain keeps no_tree name (Some d) = rw no_tree (barred_if (is_dir d.heade
 
 -- a directory without entries, or no directory
 
-no_entry : (name : List ℕ) (b : Bool) (held : List ℕ) → None ≡ entry_of name (Some (filled b held))
+no_entry : (name : List ℕ) (b : Bool) (held : List ℕ) → None ≡ entry_of name (Some (root_body b held))
 no_entry name true held = refl
 no_entry name false held = refl
 
@@ -202,19 +203,13 @@ module _ (kind : ServerKind) (old : List ℕ) (held : List ℕ) (p : Presence) (
       let r = (behaviour_of kind).set_options ws in
       steps-inside meant old new (text_taken r old) (set_options_step ws (meant old)) got (taken r (λ text. (good kind).options_root ws text)) steps
 
--- the root begins, and holds nothing
-
-begun_empty : (b : Bool) → filled b [] ≡ empty_body b
-begun_empty true = refl
-begun_empty false = refl
+-- the root begins, and holds what it is to hold at first
 
 module _ (kind : ServerKind) (n : LoneNode) where
-  node-begun : (text : List ℕ) → node_of kind text [] n ≡ new_root (behaviour_of kind) text n.owner n.group n.mode
-  node-begun text =
-      let x = new_root (behaviour_of kind) text n.owner n.group n.mode in
-      ap (λ (c : Body). let y : Node = record { header = with_size ((behaviour_of kind).size text c) x.header; body = c } in y) (begun_empty (is_dir (root_of kind text).kind))
+  node-begun : (text : List ℕ) → node_of kind text ((behaviour_of kind).first text) n ≡ new_root (behaviour_of kind) text n.owner n.group n.mode
+  node-begun text = refl
 
-  pub root-begun : (p : Presence) (text : List ℕ) (held : List ℕ) (text' : List ℕ) (held' : List ℕ) → root_name p ≡ None → text' ≡ text → held' ≡ []
+  pub root-begun : (p : Presence) (text : List ℕ) (held : List ℕ) (text' : List ℕ) (held' : List ℕ) → root_name p ≡ None → text' ≡ text → held' ≡ (behaviour_of kind).first text
       → lone_meaning kind text' held' (There n) ≡ begin_root_after (lone_meaning kind text held p) n.name n.owner n.group n.mode
   root-begun Nameless text held text' held' none same empty =
       rw (same, empty)

@@ -5,8 +5,8 @@ use Rattle.std.proofs.lemmas.List.{take_min, drop_min}
 use Rattle.hurd_creds.specs.Memory.{Steps}
 use Rattle.hurd_trans_iface.specs.Nodes.{Content, Node}
 use Rattle.hurd_trans_iface.specs.Behaviour.{served}
-use Rattle.hurd_trans_iface.specs.FifoKind.{fifo_read}
-use Rattle.hurd_trans_iface.specs.Meaning.{Fifo}
+use Rattle.hurd_trans_iface.specs.Kinds.Fifo.{fifo_read}
+use Rattle.hurd_trans_iface.specs.declared.begun.ServerKind.TheVariants.{Fifo}
 use Rattle.hurd_small.specs.declared.presence.LoneNode.{LoneNode}
 use Rattle.hurd_small.specs.Lone.{node_of}
 

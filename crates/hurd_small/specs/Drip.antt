@@ -1,7 +1,8 @@
 -- What a drip means.
 use Rattle.std.specs.Prelude.{replicate}
-use Rattle.hurd_trans_iface.specs.DripKind.{drop_byte}
-use Rattle.hurd_trans_iface.specs.Meaning.{Meaning, Drip as DripKind}
+use Rattle.hurd_trans_iface.specs.Kinds.Drip.{drop_byte}
+use Rattle.hurd_trans_iface.specs.Meaning.{Meaning}
+use Rattle.hurd_trans_iface.specs.declared.begun.ServerKind.TheVariants.{Drip as DripKind}
 use Rattle.hurd_small.specs.declared.lone.Lone.{Lone}
 use Rattle.hurd_small.specs.declared.drops.Drops.{Drops}
 use Rattle.hurd_small.specs.Lone.{lone_meaning}

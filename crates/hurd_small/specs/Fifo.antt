@@ -1,6 +1,7 @@
 -- What a pipe means.
 use Rattle.std.specs.Prelude.{[]}
-use Rattle.hurd_trans_iface.specs.Meaning.{Meaning, Fifo as FifoKind}
+use Rattle.hurd_trans_iface.specs.Meaning.{Meaning}
+use Rattle.hurd_trans_iface.specs.declared.begun.ServerKind.TheVariants.{Fifo as FifoKind}
 use Rattle.hurd_small.specs.declared.lone.Lone.{Lone}
 use Rattle.hurd_small.specs.declared.pipe.Pipe.{Pipe}
 use Rattle.hurd_small.specs.Lone.{lone_meaning}

@@ -1,6 +1,8 @@
 -- Kinds of server of one node of which nothing but options changes.
-use Rattle.std.specs.Prelude.{◌≡◌, Bool, true, false, if◌then◌else◌, Option, Some, None, refl}
-use Rattle.hurd_trans_iface.specs.Meaning.{Meaning, ServerKind, Hello, Null, Zero, Symlink, Firmlink, Magic, counts_opens, keeps_tree}
+use Rattle.std.specs.Prelude.{◌≡◌, ℕ, Bool, true, false, if◌then◌else◌, List, [], Option, Some, None, refl}
+use Rattle.hurd_trans_iface.specs.Meaning.{Meaning, behaviour_of, counts_opens, keeps_tree}
+use Rattle.hurd_trans_iface.specs.declared.begun.ServerKind.{ServerKind}
+use Rattle.hurd_trans_iface.specs.declared.begun.ServerKind.TheVariants.{Hello, Null, Zero, Symlink, Firmlink, Magic}
 use Rattle.hurd_small.specs.declared.fixed_kind.FixedKind.{FixedKind}
 use Rattle.hurd_small.specs.declared.fixed_kind.FixedKind.TheVariants as fixed
 
@@ -36,6 +38,15 @@ keeps_nothing fixed.Zero = refl
 keeps_nothing fixed.Symlink = refl
 keeps_nothing fixed.Firmlink = refl
 keeps_nothing fixed.Magic = refl
+
+-- nothing is in them at first
+pub begins_empty : (k : FixedKind) (text : List ℕ) → (behaviour_of (kind_of k)).first text ≡ []
+begins_empty fixed.Hello text = refl
+begins_empty fixed.Null text = refl
+begins_empty fixed.Zero text = refl
+begins_empty fixed.Symlink text = refl
+begins_empty fixed.Firmlink text = refl
+begins_empty fixed.Magic text = refl
 
 -- nothing that they say goes by who reads them or writes them
 pub counts_nothing : (k : FixedKind) → counts_opens (kind_of k) ≡ false

@@ -1,26 +1,22 @@
 -- Servers of one node, which is a directory without entries or no directory.
-use Rattle.std.specs.Prelude.{◌≡◌, ℕ, Bool, true, false, if◌then◌else◌, List, [], length, nat_lt, Option, Some, None, Result, Ok, Err}
+use Rattle.std.specs.Prelude.{◌≡◌, ℕ, if◌then◌else◌, List, [], length, nat_lt, Option, Some, None, Result, Ok, Err}
 use Rattle.std.specs.FinMap as fin
 use Rattle.hurd_creds.specs.Memory.{Meets}
 use Rattle.hurd_creds.specs.declared.name.Name.{Name}
 use Rattle.hurd_creds.specs.declared.errno.Errno.{Errno}
 use Rattle.hurd_creds.specs.declared.errno.Errno.TheVariants.{EDIED, EFBIG, ENOTDIR, EROFS}
 use Rattle.hurd_creds.specs.Limits.{most_size}
-use Rattle.hurd_trans_iface.specs.Nodes.{Body, Content, Listing, Node, NodeMap, is_dir, with_size}
+use Rattle.hurd_trans_iface.specs.Nodes.{Body, Node, NodeMap, is_dir, with_size}
 use Rattle.hurd_trans_iface.specs.Behaviour.{Effect, only, told_of}
-use Rattle.hurd_trans_iface.specs.Meaning.{Meaning, ServerKind, behaviour_of, new_root, root_of}
+use Rattle.hurd_trans_iface.specs.Meaning.{Meaning, behaviour_of, new_root, root_body, root_of}
+use Rattle.hurd_trans_iface.specs.declared.begun.ServerKind.{ServerKind}
 use Rattle.hurd_small.specs.declared.presence.LoneNode.{LoneNode}
 use Rattle.hurd_small.specs.declared.presence.Presence.{Presence}
 use Rattle.hurd_small.specs.declared.presence.Presence.TheVariants.{Nameless, There, Forgotten}
 
--- what is in a node that holds these bytes, or no entries where it is a directory
-abbrev pub filled : Bool → List ℕ → Body
-filled true held = Listing []
-filled false held = Content held
-
 -- what is in the node of a server of this kind and text that holds these bytes
 abbrev pub body_with : ServerKind → List ℕ → List ℕ → Body
-body_with kind text held = filled (is_dir (root_of kind text).kind) held
+body_with kind text held = root_body (is_dir (root_of kind text).kind) held
 
 -- the node of a server of this kind and text that holds these bytes
 abbrev pub node_of : ServerKind → List ℕ → List ℕ → LoneNode → Node

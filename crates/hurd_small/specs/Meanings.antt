@@ -1,6 +1,7 @@
 -- What a server of one node means, of any kind of which nothing changes.
 use Rattle.std.specs.Prelude.{ℕ, List, []}
-use Rattle.hurd_trans_iface.specs.Meaning.{Meaning, ServerKind}
+use Rattle.hurd_trans_iface.specs.Meaning.{Meaning}
+use Rattle.hurd_trans_iface.specs.declared.begun.ServerKind.{ServerKind}
 use Rattle.hurd_small.specs.declared.lone.Lone.{Lone}
 use Rattle.hurd_small.specs.declared.still.Still.{Still}
 use Rattle.hurd_small.specs.Lone.{lone_meaning}

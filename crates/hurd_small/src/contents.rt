@@ -1,7 +1,7 @@
 //! The text that a word says.
 ghost use Rattle.std.specs.Prelude.{◌≡◌, option_copied, IfOk, IfErr, Ok, Err};
 ghost use Rattle.std.specs.List.{list_all};
-ghost use Rattle.hurd_trans_iface.specs.HelloKind.{hello_options, says_text};
+ghost use Rattle.hurd_trans_iface.specs.Kinds.Hello.{hello_options, says_text};
 
 use hurd_creds::{Bytes, Errno};
 use hurd_trans_iface::contents_in;

@@ -1,14 +1,15 @@
 //! A stream of a few bytes.
 ghost use Rattle.std.specs.Prelude.{◌≡◌, true, Some, None, IfOk, IfErr, MatchOption};
-ghost use Rattle.hurd_trans_iface.specs.DripKind.{drops_of, says_drops};
-ghost use Rattle.hurd_trans_iface.specs.Meaning.{begin, begin_as, new_server, Drip as DripKind};
+ghost use Rattle.hurd_trans_iface.specs.Kinds.Drip.{says_drops};
+ghost use Rattle.hurd_trans_iface.specs.Meaning.{begin, begin_as, new_server};
+ghost use Rattle.hurd_trans_iface.specs.declared.begun.ServerKind.TheVariants.{Drip as DripKind};
 ghost use Rattle.hurd_small.specs.Drip.{drip_meaning};
 
 use crate::drops::Drops;
 use crate::lone::Lone;
 use crate::presence::Presence;
-use hurd_creds::{Bytes, Errno, long_number};
-use hurd_trans_iface::{Begun, Words, begun_by};
+use hurd_creds::Errno;
+use hurd_trans_iface::{ServerKind, Words, begun_by};
 use std::alloc::{AllocError, Global};
 
 /// A stream of as many bytes as its word says, one for each read, after which reads fail (this project's own).
@@ -29,8 +30,8 @@ impl Lone<Drops> {
         let Some(begun) = begun_by(words.as_slice()) else {
             return Err(Errno::EINVAL);
         };
-        match begun {
-            Begun::Drip(digits) => Ok(Drip::counted_by(alloc, digits)?),
+        match begun.kind {
+            ServerKind::Drip => Ok(Drip::counted_by(alloc, begun.text)?),
             _ => Err(Errno::EINVAL),
         }
     }
@@ -40,24 +41,9 @@ impl Lone<Drops> {
         requires { says_drops digits.now ≡ true }
         ensures { IfOk result (λ s. drip_meaning s ≡ new_server DripKind digits.now) }
     {
-        let count = count_in(digits);
         Ok(Lone {
-            keeper: Drops {
-                digits: Bytes::copied(alloc, digits)?,
-                count,
-                given: 0,
-            },
+            keeper: Drops::counted_by(alloc, digits)?,
             presence: Presence::Nameless,
         })
-    }
-}
-
-/// How many bytes a word says.
-fn count_in(digits: &[u8]) -> usize
-    ensures { result ≡ drops_of digits.now }
-{
-    match long_number(digits) {
-        Some(count) => count as usize,
-        None => 0,
     }
 }

@@ -1,13 +1,13 @@
 //! What a drip says of itself, and the bytes that it gave.
-ghost use Rattle.std.specs.Prelude.{◌≡◌, ◌≤◌, length, replicate, refl};
-ghost use Rattle.hurd_trans_iface.specs.DripKind.{drop_byte, drops_of, most_drops};
-ghost use Rattle.hurd_trans_iface.specs.Meaning.{Drip as DripKind};
+ghost use Rattle.std.specs.Prelude.{◌≡◌, ◌≤◌, true, length, replicate, refl, IfOk};
+ghost use Rattle.hurd_trans_iface.specs.Kinds.Drip.{drop_byte, drops_of, most_drops, says_drops};
+ghost use Rattle.hurd_trans_iface.specs.declared.begun.ServerKind.TheVariants.{Drip as DripKind};
 
 use crate::keeper::Keeper;
 use crate::words::no_options;
-use hurd_creds::{Bytes, Errno, Kind, MOST_SIZE};
+use hurd_creds::{Bytes, Errno, Kind, MOST_SIZE, long_number};
 use hurd_trans_iface::{Names, Root, Words};
-use std::alloc::Global;
+use std::alloc::{AllocError, Global};
 
 /// The most bytes that a drip has, all of them.
 const DROPS: [u8; 1000] = [b'.'; 1000];
@@ -25,6 +25,31 @@ pub struct Drops {
     ghost within: { given ≤ count },
     /// With the program's name it is within the limits of words.
     ghost short: { length digits ≤ 4 },
+}
+
+impl Drops {
+    /// As many bytes as these digits say, none of them given.
+    pub(crate) fn counted_by(alloc: Global, digits: &[u8]) -> Result<Drops, AllocError>
+        requires { says_drops digits.now ≡ true }
+        ensures { IfOk result (λ s. (s.digits ≡ digits.now) × (s.given ≡ 0)) }
+    {
+        let count = count_in(digits);
+        Ok(Drops {
+            digits: Bytes::copied(alloc, digits)?,
+            count,
+            given: 0,
+        })
+    }
+}
+
+/// How many bytes a word says.
+fn count_in(digits: &[u8]) -> usize
+    ensures { result ≡ drops_of digits.now }
+{
+    match long_number(digits) {
+        Some(count) => count as usize,
+        None => 0,
+    }
 }
 
 impl Keeper for Drops {

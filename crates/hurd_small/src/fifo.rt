@@ -1,14 +1,14 @@
 //! A pipe, under a name.
 ghost use Rattle.std.specs.Prelude.{◌≡◌, [], Some, None, IfOk, IfErr};
-ghost use Rattle.hurd_trans_iface.specs.Meaning.{begin, begin_as, new_server, Fifo as FifoKind};
+ghost use Rattle.hurd_trans_iface.specs.Meaning.{begin, begin_as, new_server};
+ghost use Rattle.hurd_trans_iface.specs.declared.begun.ServerKind.TheVariants.{Fifo as FifoKind};
 ghost use Rattle.hurd_small.specs.Fifo.{fifo_meaning};
 
 use crate::lone::Lone;
 use crate::pipe::Pipe;
 use crate::presence::Presence;
-use arrayvec::ArrayVec;
 use hurd_creds::Errno;
-use hurd_trans_iface::{Begun, Words, begun_by};
+use hurd_trans_iface::{ServerKind, Words, begun_by};
 use std::alloc::Global;
 
 /// A pipe: bytes between those who write them and those who read them (the Hurd's `/hurd/fifo`).
@@ -27,8 +27,8 @@ impl Lone<Pipe> {
         let Some(begun) = begun_by(words.as_slice()) else {
             return Err(Errno::EINVAL);
         };
-        match begun {
-            Begun::Fifo => Ok(Fifo::empty()),
+        match begun.kind {
+            ServerKind::Fifo => Ok(Fifo::empty()),
             _ => Err(Errno::EINVAL),
         }
     }
@@ -38,9 +38,7 @@ impl Lone<Pipe> {
         ensures { fifo_meaning result ≡ new_server FifoKind [] }
     {
         Lone {
-            keeper: Pipe {
-                held: ArrayVec::new(),
-            },
+            keeper: Pipe::empty(),
             presence: Presence::Nameless,
         }
     }

@@ -1,9 +1,9 @@
 //! What a server of one node says of itself, where nothing but options changes that.
 ghost use Rattle.std.specs.Prelude.{◌≡◌, ◌≤◌, ℕ, [], length, replicate, Ok};
 ghost use Rattle.hurd_creds.specs.Memory.{Meets};
-ghost use Rattle.hurd_trans_iface.specs.HelloKind.{most_text};
-ghost use Rattle.hurd_trans_iface.specs.SymlinkKind.{is_absolute};
-ghost use Rattle.hurd_small.specs.FixedKinds.{kind_of, counts_nothing, keeps_nothing};
+ghost use Rattle.hurd_trans_iface.specs.Kinds.Hello.{most_text};
+ghost use Rattle.hurd_trans_iface.specs.Kinds.Symlink.{is_absolute};
+ghost use Rattle.hurd_small.specs.FixedKinds.{begins_empty, counts_nothing, keeps_nothing, kind_of};
 
 use crate::contents::new_text;
 use crate::fixed_kind::FixedKind;
@@ -30,6 +30,8 @@ impl Single for Fixed {
     ghost text = { λ s. s.text };
 
     ghost no_tree = { λ s. keeps_nothing s.kind };
+
+    ghost no_bytes = { λ s. begins_empty s.kind s.text };
 
     ghost no_count = { λ s. counts_nothing s.kind };
 

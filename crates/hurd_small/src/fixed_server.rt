@@ -1,38 +1,48 @@
 //! A server of one node of which nothing but options changes.
 ghost use Rattle.std.specs.Option.{option_map};
-ghost use Rattle.std.specs.Prelude.{◌≡◌, ◌≤◌, length, Some, None, IfOk, IfErr, IfSome, MatchOption};
-ghost use Rattle.hurd_trans_iface.specs.HelloKind.{most_text};
+ghost use Rattle.std.specs.Prelude.{◌≡◌, ◌≤◌, if◌then◌else◌, length, Some, None, IfOk, IfErr, IfSome, MatchOption};
+ghost use Rattle.hurd_trans_iface.specs.Kinds.Hello.{most_text};
 ghost use Rattle.hurd_trans_iface.specs.Meaning.{begin, new_server};
 ghost use Rattle.hurd_trans_iface.specs.Sayings.{IsFit, server_said};
 ghost use Rattle.hurd_small.specs.Fixed.{fixed_meaning};
-ghost use Rattle.hurd_small.specs.FixedKinds.{kind_of, only_fixed};
+ghost use Rattle.hurd_small.specs.FixedKinds.{is_fixed, kind_of, only_fixed};
 
 use crate::fixed::Fixed;
 use crate::fixed_kind::FixedKind;
 use crate::lone::Lone;
 use crate::still::Still;
 use hurd_creds::{Bytes, Errno};
-use hurd_trans_iface::{Begun, Words, begun_by};
+use hurd_trans_iface::{Begun, ServerKind, Words, begun_by};
 use std::alloc::{AllocError, Global};
 
 /// A server of one node of which nothing but options changes, of one of six kinds.
 pub type FixedServer = Lone<Still<Fixed>>;
 
+/// Such a kind among all kinds, if it is one.
+#[tactic(auto, using(crate::proofs::FixedLaws::not_fixed))]
+fn fixed_kind(kind: ServerKind) -> Option<FixedKind>
+    ensures { option_map kind_of result ≡ (if is_fixed kind then Some kind else None) }
+{
+    match kind {
+        ServerKind::Hello => Some(FixedKind::Hello),
+        ServerKind::Null => Some(FixedKind::Null),
+        ServerKind::Zero => Some(FixedKind::Zero),
+        ServerKind::Symlink => Some(FixedKind::Symlink),
+        ServerKind::Firmlink => Some(FixedKind::Firmlink),
+        ServerKind::Magic => Some(FixedKind::Magic),
+        _ => None,
+    }
+}
+
 /// The kind and the text that words say, lent; none where they make a server of another kind.
+#[tactic(auto, using(crate::proofs::FixedLaws::fixed_short))]
 fn fixed_in(begun: Begun<'_>) -> Option<(FixedKind, &[u8])>
     requires { IsFit begun }
     ensures is { option_map (λ said. new_server (kind_of said.0) said.1.now) result ≡ only_fixed (Some (server_said begun.entry)) }
     ensures short { IfSome result (λ said. length said.1.now ≤ most_text) }
 {
-    match begun {
-        Begun::Hello(text) => Some((FixedKind::Hello, text)),
-        Begun::Null => Some((FixedKind::Null, &[])),
-        Begun::Zero => Some((FixedKind::Zero, &[])),
-        Begun::Symlink(path) => Some((FixedKind::Symlink, path)),
-        Begun::Firmlink(path) => Some((FixedKind::Firmlink, path)),
-        Begun::Magic => Some((FixedKind::Magic, b"fd")),
-        Begun::Tmpfs(_) | Begun::Union(_) | Begun::Drip(_) | Begun::Fifo => None,
-    }
+    let kind = fixed_kind(begun.kind)?;
+    Some((kind, begun.text))
 }
 
 impl Lone<Still<Fixed>> {

@@ -2,7 +2,8 @@
 ghost use Rattle.std.specs.Prelude.{◌≡◌, ℕ, false, List, [], Ok};
 ghost use Rattle.hurd_creds.specs.Memory.{Meets, Steps};
 ghost use Rattle.hurd_trans_iface.specs.Behaviour.{served, told_of};
-ghost use Rattle.hurd_trans_iface.specs.Meaning.{ServerKind, behaviour_of, counts_opens, keeps_tree, options_of, root_of, targets_of};
+ghost use Rattle.hurd_trans_iface.specs.Meaning.{behaviour_of, counts_opens, keeps_tree, options_of, root_of, targets_of};
+ghost use Rattle.hurd_trans_iface.specs.declared.begun.ServerKind.{ServerKind};
 ghost use Rattle.hurd_small.specs.declared.presence.LoneNode.{LoneNode};
 ghost use Rattle.hurd_small.specs.Lone.{body_with, node_of, text_taken};
 
@@ -52,11 +53,11 @@ pub trait Keeper: Drop {
         ensures meets { Meets (Ok (targets_of (kind self.now) (text self.now))) result }
         ensures nothing { targets_of (kind self.now) (text self.now) ≡ [] → result ≡ Ok [] };
 
-    /// The node begins: it holds nothing.
+    /// The node begins: it holds what its kind says that it does at first.
     fn begin(&mut self)
         ensures kind { kind self.new ≡ kind self.old }
         ensures text { text self.new ≡ text self.old }
-        ensures held { held self.new ≡ [] };
+        ensures held { held self.new ≡ (behaviour_of (kind self.old)).first (text self.old) };
 
     /// The node's size, in bytes.
     fn size(&self) -> u64

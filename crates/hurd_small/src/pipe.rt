@@ -1,7 +1,7 @@
 //! What a pipe holds.
 ghost use Rattle.std.specs.Prelude.{◌≡◌, ◌≤◌, ◌+◌, [], ◌++◌, drop, length, refl};
 ghost use Rattle.arrayvec.specs.ArrayVec.{array_vec_len};
-ghost use Rattle.hurd_trans_iface.specs.Meaning.{Fifo as FifoKind};
+ghost use Rattle.hurd_trans_iface.specs.declared.begun.ServerKind.TheVariants.{Fifo as FifoKind};
 
 use crate::keeper::Keeper;
 use crate::words::no_options;
@@ -14,6 +14,17 @@ use std::alloc::Global;
 #[derive(Drop)]
 pub struct Pipe {
     pub(crate) held: ArrayVec<u8, 4096>,
+}
+
+impl Pipe {
+    /// A pipe that holds nothing.
+    pub(crate) fn empty() -> Pipe
+        ensures { result.held.items ≡ [] }
+    {
+        Pipe {
+            held: ArrayVec::new(),
+        }
+    }
 }
 
 /// Puts bytes behind those that are held.

@@ -2,7 +2,7 @@
 ghost use Rattle.std.specs.Prelude.{◌≡◌, ℕ, List, IfSome};
 ghost use Rattle.std.specs.Option.{option_map};
 ghost use Rattle.std.specs.FinMap as fin;
-ghost use Rattle.hurd_trans_iface.specs.Meaning.{ServerKind};
+ghost use Rattle.hurd_trans_iface.specs.declared.begun.ServerKind.{ServerKind};
 ghost use Rattle.hurd_small.specs.Lone.{node_of, nodes_of};
 
 use hurd_creds::{Mode, NodeName};

@@ -3,7 +3,8 @@ ghost use Rattle.std.specs.Prelude.{◌≡◌, ℕ, false, List, [], Ok};
 ghost use Rattle.hurd_creds.specs.Memory.{Meets, Steps};
 ghost use Rattle.hurd_trans_iface.specs.Nodes.{Node, is_dir};
 ghost use Rattle.hurd_trans_iface.specs.Behaviour.{told_of};
-ghost use Rattle.hurd_trans_iface.specs.Meaning.{ServerKind, behaviour_of, counts_opens, empty_body, keeps_tree, options_of, root_of, targets_of};
+ghost use Rattle.hurd_trans_iface.specs.Meaning.{behaviour_of, counts_opens, keeps_tree, options_of, root_body, root_of, targets_of};
+ghost use Rattle.hurd_trans_iface.specs.declared.begun.ServerKind.{ServerKind};
 ghost use Rattle.hurd_small.specs.Lone.{IsGiven, IsPut, IsCut, text_taken};
 
 use hurd_creds::{Bytes, Errno};
@@ -49,7 +50,7 @@ pub trait Single: Drop {
 
     /// The node's size, in bytes.
     fn size(&self) -> u64
-        ensures { result ≡ (behaviour_of (kind self.now)).size (text self.now) (empty_body (is_dir (root_of (kind self.now) (text self.now)).kind)) };
+        ensures { result ≡ (behaviour_of (kind self.now)).size (text self.now) (root_body (is_dir (root_of (kind self.now) (text self.now)).kind) []) };
 
     /// At most `amount` bytes from `at` on; where there are none, no memory is taken.
     ///
@@ -71,6 +72,9 @@ pub trait Single: Drop {
 
     // Nothing is made in it.
     ghost no_tree: { (s : Self) → keeps_tree (kind s) ≡ false };
+
+    // Nothing is in it at first.
+    ghost no_bytes: { (s : Self) → (behaviour_of (kind s)).first (text s) ≡ [] };
 
     // Nothing that it says goes by who reads it or writes it.
     ghost no_count: { (s : Self) → counts_opens (kind s) ≡ false };

@@ -1,6 +1,7 @@
 //! A server of one node of which nothing changes.
 ghost use Rattle.std.specs.Prelude.{◌≡◌, ℕ, List, []};
-ghost use Rattle.hurd_trans_iface.specs.Meaning.{ServerKind, new_server};
+ghost use Rattle.hurd_trans_iface.specs.Meaning.{new_server};
+ghost use Rattle.hurd_trans_iface.specs.declared.begun.ServerKind.{ServerKind};
 ghost use Rattle.hurd_small.specs.Meanings.{meaning_as};
 
 use crate::keeper::Keeper;

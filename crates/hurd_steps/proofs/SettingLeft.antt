@@ -4,7 +4,7 @@ use Rattle.std.specs.Option.{option_map}
 use Rattle.hurd_creds.specs.declared.mode.Mode.{Mode}
 use Rattle.hurd_creds.specs.TransBits.{ORPHAN, SET, asks_trans}
 use Rattle.hurd_trans_iface.specs.Nodes.{with_passive}
-use Rattle.hurd_machine.proofs.Common.{Attach, Body, Change, DropServer, EditHeader, Errno, IdSets, Meaning, Name, Named, Node, PendingStart, Settle, Task, Unseat, World, begun_info, begun_root, empty_body, fresh, is_dir}
+use Rattle.hurd_machine.proofs.Common.{Attach, Body, Change, DropServer, EditHeader, Errno, IdSets, Meaning, Name, Named, Node, PendingStart, Settle, Task, Unseat, World, begun_info, begun_root, root_body, fresh, is_dir}
 use Rattle.hurd_trans_iface.specs.Meaning.{root_of}
 use Rattle.hurd_ports.specs.Steps.{named, with_pending}
 use Rattle.hurd_machine.specs.declared.call.Setting.{Setting}
@@ -32,13 +32,13 @@ use Rattle.hurd_steps.proofs.TaskChanges.{named-renamed}
 module _ (f : OtherNames) where
   -- a new root has no names
 
-  empty_body-renamed : (b : Bool) → body_renamed f.to (empty_body b) ≡ empty_body b
-  empty_body-renamed true = refl
-  empty_body-renamed false = refl
+  root_body-renamed : (b : Bool) (bs : List ℕ) → body_renamed f.to (root_body b bs) ≡ root_body b bs
+  root_body-renamed true bs = refl
+  root_body-renamed false bs = refl
 
   begun_root-renamed : (m : Meaning) (owner group : ℕ) (mode : Mode) → node_renamed f.to (begun_root m owner group mode) ≡ begun_root m owner group mode
   begun_root-renamed m owner group mode =
-      ap (λ (b : Body). record (begun_root m owner group mode) { body = b }) (empty_body-renamed (is_dir (root_of m.kind m.text).kind))
+      ap (λ (b : Body). record (begun_root m owner group mode) { body = b }) (root_body-renamed (is_dir (root_of m.kind m.text).kind) ((behaviour_of m.kind).first m.text))
 
   -- where a server is to come, with other names
   abbrev place_renamed : ServerToMake → ServerToMake

@@ -3,7 +3,7 @@ ghost use Rattle.std.specs.Prelude.{◌≡◌, ◌≤◌, length, option_copied,
 ghost use Rattle.std.specs.List.{list_all};
 ghost use Rattle.hurd_creds.specs.Memory.{Meets};
 ghost use Rattle.hurd_creds.specs.Numbers.{long_number_of};
-ghost use Rattle.hurd_trans_iface.specs.TmpfsKind.{has_size, most_digits, tmpfs, tmpfs_options};
+ghost use Rattle.hurd_trans_iface.specs.Kinds.Tmpfs.{has_size, most_digits, tmpfs, tmpfs_options};
 ghost use Rattle.hurd_trans_iface.specs.Totals.{space_with};
 
 use hurd_creds::{Bytes, Errno, long_number};

@@ -7,7 +7,7 @@ use Rattle.hurd_trans_iface.specs.Words.{IsWithinLimits}
 use Rattle.hurd_trans_iface.proofs.Beginnings.{begun-made}
 use Rattle.hurd_trans_iface.proofs.Owed.{owed}
 use Rattle.hurd_trans_iface.proofs.Owes.{SaysAgain}
-pub use Rattle.hurd_trans_iface.proofs.UnionOwes.{words_back}
+pub use Rattle.hurd_trans_iface.proofs.Owed.Union.{words_back}
 
 abbrev Remakes : Meaning → Type 0
 Remakes m = begin (options_of m.kind m.text) ≡ Some m
@@ -26,7 +26,7 @@ said_again k text says =
 pub begun-again : (ws : List (List ℕ)) (m : Meaning) → begin ws ≡ Some m → Remakes m
 begun-again ws m h =
     let made = begun-made ws m h in
-    subst Remakes (sym made.server) (said_again m.kind made.text ((owed m.kind).laws.again made.rest made.text made.says))
+    subst Remakes (sym made.server) (said_again m.kind made.text ((owed m.kind).laws.said.again made.rest made.text made.says))
 
 -- options that are taken
 

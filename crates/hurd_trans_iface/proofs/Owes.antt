@@ -5,38 +5,63 @@ use Rattle.std.specs.Prelude.{Option, Some, None, Ok, Err}
 use Rattle.std.specs.Option.{option_map, option_or}
 use Rattle.std.specs.Str.{bytes_eq}
 use Rattle.hurd_creds.specs.declared.errno.Errno.{Errno}
+use Rattle.hurd_creds.specs.declared.name.Name.{Name}
 use Rattle.hurd_creds.specs.Memory.{is_no_memory}
-use Rattle.hurd_trans_iface.specs.Arguments.{one_word, no_text, no_options}
-use Rattle.hurd_trans_iface.specs.Nodes.{Body, Node, is_dir, without_entry}
+use Rattle.hurd_trans_iface.specs.Arguments.{is_empty, one_word, no_text, no_options}
+use Rattle.hurd_trans_iface.specs.Nodes.{Body, Node, without_entry}
+use Rattle.hurd_trans_iface.specs.Renamed.{body_renamed, node_renamed}
 use Rattle.hurd_trans_iface.specs.Behaviour.{Behaviour, Did, Question, reading, writing, resizing, bytes_left}
-use Rattle.hurd_trans_iface.specs.Bodies.{MayHold}
+use Rattle.hurd_trans_iface.specs.Bodies.{Holds}
 use Rattle.hurd_trans_iface.specs.Good.{GoodBehaviour, KeepsRoot}
-use Rattle.hurd_trans_iface.specs.Meaning.{Meaning, ServerKind, all_kinds, begin, behaviour_of, empty_body, new_server}
+use Rattle.hurd_trans_iface.specs.Meaning.{Meaning, ServerKind, all_kinds, begin, behaviour_of, first_body, new_server}
 use Rattle.hurd_trans_iface.specs.Words.{IsWithinLimits}
 use Rattle.hurd_trans_iface.proofs.Goodness.{no-options-text, no-options-plain}
 
 -- a question after which only what may be is in the node
-abbrev pub Keeps : {T : Type 0} → Behaviour → (Body → Type 0) → Question T → Type 0
-Keeps {T} b Holds q = (text : List ℕ) (x : Node) (d : Did T) → Holds x.body → q b text x ≡ Ok d → Holds (bytes_left d.bytes x.body)
+abbrev pub Keeps : {T : Type 0} → Behaviour → Question T → Type 0
+Keeps {T} b q = (text : List ℕ) (x : Node) (d : Did T) → Holds b x.body → q b text x ≡ Ok d → Holds b (bytes_left d.bytes x.body)
+
+-- a question whose answer goes by no name that is in a node
+abbrev pub IsNameless : {T : Type 0} → Behaviour → Question T → Type 0
+IsNameless b q = (to : Name → Name) (text : List ℕ) (x : Node) → q b text (node_renamed to x) ≡ q b text x
+
+-- nothing that a behaviour says of a node goes by names that are in it
+pub record Nameless (b : Behaviour) : Type 0 where
+  pub size : (to : Name → Name) (text : List ℕ) (c : Body) → b.size text (body_renamed to c) ≡ b.size text c
+  pub holds : (to : Name → Name) (c : Body) → b.holds (body_renamed to c) ≡ b.holds c
+  pub read : (at amount writers : ℕ) → IsNameless b (reading at amount writers)
+  pub write : (at : ℕ) (bs : List ℕ) (readers : ℕ) → IsNameless b (writing at bs readers)
+  pub set_size : (size : ℕ) → IsNameless b (resizing size)
+  pub readable : (to : Name → Name) (text : List ℕ) (x : Node) (at : ℕ) → b.readable text (node_renamed to x) at ≡ b.readable text x at
 
 -- the words behind the program's name that a text gives say it again
 abbrev pub SaysAgain : Behaviour → List ℕ → Type 0
 SaysAgain b text = b.begins (drop 1 (b.options text)) ≡ Some text
 
--- what a behaviour owes whose nodes may hold such bodies
-pub record Laws (b : Behaviour) (Holds : Body → Type 0) : Type 0 where
-  pub good : GoodBehaviour b
-  -- a server begins with what may be in its root
-  pub begun_holds : (text : List ℕ) → Holds (empty_body (is_dir (b.root text).kind))
-  pub read_holds : (at amount writers : ℕ) → Keeps b Holds (reading at amount writers)
-  pub write_holds : (at : ℕ) (bs : List ℕ) (readers : ℕ) → Keeps b Holds (writing at bs readers)
-  pub cut_holds : (size : ℕ) → Keeps b Holds (resizing size)
-  -- with an entry less no more is there than was
-  pub less_holds : (name : List ℕ) (c : Body) → Holds c → Holds (without_entry name c)
-  -- where a tree is kept anything may be
-  pub tree_holds : b.tree ≡ true → (c : Body) → Holds c
-  -- a text that words said, and one that options gave
+-- what words say to it, and where it aims
+pub record Said (b : Behaviour) : Type 0 where
+  -- they say such a text as is to be said
+  pub fits : (ws : List (List ℕ)) (text : List ℕ) → IsWithinLimits (b.program ∷ ws) → b.begins ws ≡ Some text → b.fits text ≡ true
+  -- and the text says it again
   pub again : (ws : List (List ℕ)) (text : List ℕ) → b.begins ws ≡ Some text → SaysAgain b text
+  -- where it doesn't aim, there are no paths
+  pub aimless : b.aims ≡ false → (text : List ℕ) → b.targets text ≡ []
+
+-- what a behaviour owes
+pub record Laws (b : Behaviour) : Type 0 where
+  pub good : GoodBehaviour b
+  pub nameless : Nameless b
+  pub said : Said b
+  -- a server begins with what may be in its root
+  pub begun_holds : (text : List ℕ) → Holds b (first_body b text)
+  pub read_holds : (at amount writers : ℕ) → Keeps b (reading at amount writers)
+  pub write_holds : (at : ℕ) (bs : List ℕ) (readers : ℕ) → Keeps b (writing at bs readers)
+  pub cut_holds : (size : ℕ) → Keeps b (resizing size)
+  -- with an entry less no more is there than was
+  pub less_holds : (name : List ℕ) (c : Body) → Holds b c → Holds b (without_entry name c)
+  -- where a tree is kept anything may be
+  pub tree_holds : b.tree ≡ true → (c : Body) → Holds b c
+  -- a text that options gave
   pub set_again : (ws : List (List ℕ)) (text : List ℕ) → b.set_options ws ≡ Ok (Some text) → SaysAgain b text
   pub set_within : (ws : List (List ℕ)) (text : List ℕ) → b.set_options ws ≡ Ok (Some text) → IsWithinLimits (b.options text)
 
@@ -50,7 +75,7 @@ pub record Owes (k : ServerKind) : Type 0 where
   -- it is known by the name of its program, and of all kinds words that begin with it make a server of this one
   pub named : kind_among all_kinds (behaviour_of k).program ≡ Some k
   pub begins : (ws : List (List ℕ)) → begin ((behaviour_of k).program ∷ ws) ≡ option_map (new_server k) ((behaviour_of k).begins ws)
-  pub laws : Laws (behaviour_of k) (MayHold k)
+  pub laws : Laws (behaviour_of k)
 
 pub or_none : (o : Option Meaning) → option_or o None ≡ o
 or_none None = refl
@@ -94,6 +119,15 @@ one-said is_one (w ∷ v ∷ ws) text h = absurd (cc)
 -- and says it again
 pub one-again : (is_one : List ℕ → Bool) (ws : List (List ℕ)) (text : List ℕ) → one_word is_one ws ≡ Some text → one_word is_one (text ∷ []) ≡ Some text
 one-again is_one ws text h = rw (one-said is_one ws text h) refl
+
+-- so it is such a text as is to be said
+pub one-fits : (b : Behaviour) → b.begins ≡ one_word b.fits → (ws : List (List ℕ)) (text : List ℕ) → IsWithinLimits (b.program ∷ ws) → b.begins ws ≡ Some text → b.fits text ≡ true
+one-fits b is ws text within h = one-said b.fits ws text (sym (ap (λ f. f ws) is) ∙ h)
+
+pub none-fits : (ws : List (List ℕ)) (text : List ℕ) → no_text ws ≡ Some text → is_empty text ≡ true
+none-fits [] [] h = refl
+none-fits [] (b ∷ bs) h = absurd (cc)
+none-fits (w ∷ ws) text h = absurd (cc)
 
 pub none-again : (ws : List (List ℕ)) (text : List ℕ) → no_text ws ≡ Some text → no_text [] ≡ Some text
 none-again [] text h = h

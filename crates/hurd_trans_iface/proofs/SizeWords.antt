@@ -8,7 +8,7 @@ use Rattle.hurd_creds.specs.declared.errno.Errno.{Errno}
 use Rattle.hurd_creds.specs.declared.errno.Errno.TheVariants.{EINVAL}
 use Rattle.hurd_creds.specs.Memory.{is_no_memory}
 use Rattle.hurd_trans_iface.specs.Arguments.{behind}
-use Rattle.hurd_trans_iface.specs.TmpfsKind.{tmpfs, has_size, most_digits, says_size, sized_digits, size_in, size_said, size_word, tmpfs_options, tmpfs_text}
+use Rattle.hurd_trans_iface.specs.Kinds.Tmpfs.{tmpfs, has_size, most_digits, says_size, sized_digits, size_in, size_said, size_word, tmpfs_options, tmpfs_text}
 use Rattle.hurd_trans_iface.specs.Words.{IsWithinLimits}
 use Rattle.hurd_trans_iface.proofs.Owes.{OptionLaws, SaysAgain, two-within}
 

@@ -1,5 +1,5 @@
 -- What the words behind a program's name say, as several kinds of servers take them.
-use Rattle.std.specs.Prelude.{ℕ, ◌==◌, Bool, true, not, if◌then◌else◌, List, [], ◌∷◌, length, take, drop, Option, Some, None, Result, Ok, Err}
+use Rattle.std.specs.Prelude.{ℕ, ◌==◌, Bool, true, false, not, if◌then◌else◌, List, [], ◌∷◌, length, take, drop, Option, Some, None, Result, Ok, Err}
 use Rattle.std.specs.Str.{bytes_eq}
 use Rattle.hurd_creds.specs.declared.errno.Errno.{Errno}
 use Rattle.hurd_creds.specs.declared.errno.Errno.TheVariants.{EINVAL}
@@ -12,6 +12,11 @@ behind first word = if bytes_eq (take (length first) word) first then Some (drop
 abbrev pub is_bare : List ℕ → Bool
 is_bare (b ∷ c ∷ ds) = not (b == 48)
 is_bare ds = true
+
+-- no bytes
+abbrev pub is_empty : List ℕ → Bool
+is_empty [] = true
+is_empty (b ∷ bs) = false
 
 -- an empty text, where there are no more words
 abbrev pub no_text : List (List ℕ) → Option (List ℕ)

@@ -37,6 +37,10 @@ pub record Behaviour : Type 0 where
   pub options : List ℕ → List (List ℕ)
   -- the text that these options give it in place of its own, if any
   pub set_options : List (List ℕ) → Result (Option (List ℕ)) Errno
+  -- whether a text is such a one as words say
+  pub fits : List ℕ → Bool
+  -- whether it aims at nodes
+  pub aims : Bool
   -- the paths of the nodes that it aims at, by the text
   pub targets : List ℕ → List (List ℕ)
   -- what its root is, by the text
@@ -47,6 +51,10 @@ pub record Behaviour : Type 0 where
   pub counts : Bool
   -- the most that the files of its server that entries name may have in all, by the text, if that is limited
   pub limit : List ℕ → Option ℕ
+  -- the bytes that are in its root at first, by the text, where that is no directory
+  pub first : List ℕ → List ℕ
+  -- whether this may be in its nodes
+  pub holds : Body → Bool
   -- the size of a node, by the text and what is in the node
   pub size : List ℕ → Body → ℕ
   -- so many bytes from a place on, where so many opens write the node

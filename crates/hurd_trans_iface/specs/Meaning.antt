@@ -14,7 +14,7 @@ use Rattle.hurd_trans_iface.specs.Nodes.{Body, Content, Listing, Node, NodeMap, 
 use Rattle.hurd_trans_iface.specs.Answers.{entry_of, make_of, make_edits, link_of, link_edits, unlink_of, unlink_edits, rename_of, rename_edits, set_header_of, header_edits, edits_if}
 use Rattle.hurd_trans_iface.specs.Behaviour.{Behaviour, Question, effect_on, told_of, edits_of}
 use Rattle.hurd_trans_iface.specs.Totals.{space_with, total_in}
-pub use Rattle.hurd_trans_iface.specs.Kinds.{ServerKind, Tmpfs, Hello, Null, Zero, Symlink, Firmlink, Union, Magic, Drip, Fifo, all_kinds, behaviour_of}
+pub use Rattle.hurd_trans_iface.specs.Kinds.{ServerKind, all_kinds, behaviour_of}
 
 -- a server: its kind, its text, the name of its root once that has one, and its own nodes
 pub record Meaning : Type 0 where
@@ -65,14 +65,19 @@ counts_opens k = (behaviour_of k).counts
 abbrev pub keeps_tree : ServerKind → Bool
 keeps_tree k = (behaviour_of k).tree
 
-abbrev pub empty_body : Bool → Body
-empty_body true = Listing []
-empty_body false = Content []
+-- what is in a root that has these bytes: no entries, where it is a directory
+abbrev pub root_body : Bool → List ℕ → Body
+root_body true bs = Listing []
+root_body false bs = Content bs
 
--- a root that nothing is in yet
+-- what is in the root of a server of this text at first
+abbrev pub first_body : Behaviour → List ℕ → Body
+first_body b text = root_body (is_dir (b.root text).kind) (b.first text)
+
+-- a root at first
 abbrev pub new_root : Behaviour → List ℕ → ℕ → ℕ → Mode → Node
 new_root b text owner group mode =
-    let body = empty_body (is_dir (b.root text).kind) in
+    let body = first_body b text in
     record {
       header = record { kind = (b.root text).kind; owner = owner; group = group; mode = mode; links = 1; size = b.size text body; parent = None; passive = [] };
       body = body;

@@ -1,17 +1,18 @@
 //! Which words make a server, and what they say to it.
 ghost use Rattle.std.specs.List.{list_all};
 ghost use Rattle.std.specs.Option.{option_map};
-ghost use Rattle.std.specs.Prelude.{◌≡◌, ◌∷◌, ℕ, List, Some, Ok, IfSome, codes, is_some};
-ghost use Rattle.hurd_trans_iface.specs.Sayings.{IsFit, server_said};
+ghost use Rattle.std.specs.Prelude.{◌≡◌, [], ◌∷◌, ℕ, List, Some, Ok, IfSome, codes, is_some};
+ghost use Rattle.hurd_trans_iface.specs.Sayings.{IsFit, server_said, text_said};
 ghost use Rattle.hurd_trans_iface.specs.Arguments.{behind, is_bare, no_text};
-ghost use Rattle.hurd_trans_iface.specs.HelloKind.{hello_text};
-ghost use Rattle.hurd_trans_iface.specs.Meaning.{Meaning, ServerKind, Tmpfs, Hello, Symlink, Firmlink, Union, Magic, Drip, behaviour_of, begin, begin_as, new_server, options_of};
-ghost use Rattle.hurd_trans_iface.specs.SymlinkKind.{target_text};
-ghost use Rattle.hurd_trans_iface.specs.FirmlinkKind.{firm_text, is_firm};
-ghost use Rattle.hurd_trans_iface.specs.UnionKind.{union_text};
-ghost use Rattle.hurd_trans_iface.specs.MagicKind.{magic_text};
-ghost use Rattle.hurd_trans_iface.specs.DripKind.{drip_text, says_drops};
-ghost use Rattle.hurd_trans_iface.specs.TmpfsKind.{says_size, size_word, tmpfs_text};
+ghost use Rattle.hurd_trans_iface.specs.Kinds.Hello.{hello_text};
+ghost use Rattle.hurd_trans_iface.specs.Meaning.{Meaning, ServerKind, behaviour_of, begin, begin_as, new_server, options_of};
+ghost use Rattle.hurd_trans_iface.specs.declared.begun.ServerKind.TheVariants.{Union};
+ghost use Rattle.hurd_trans_iface.specs.Kinds.Symlink.{target_text};
+ghost use Rattle.hurd_trans_iface.specs.Kinds.Firmlink.{firm_text, is_firm};
+ghost use Rattle.hurd_trans_iface.specs.Kinds.Union.{union_text};
+ghost use Rattle.hurd_trans_iface.specs.Kinds.Magic.{magic_text};
+ghost use Rattle.hurd_trans_iface.specs.Kinds.Drip.{drip_text, says_drops};
+ghost use Rattle.hurd_trans_iface.specs.Kinds.Tmpfs.{says_size, size_word, tmpfs_text};
 ghost use Rattle.hurd_trans_iface.specs.Words.{IsWithinLimits};
 
 use hurd_creds::{Bytes, MOST_PATH, long_number};
@@ -28,37 +29,47 @@ const MOST_DROP_DIGITS: usize = 4;
 /// The most digits that say a size.
 const MOST_SIZE_DIGITS: usize = 12;
 
-/// The kind of server that some words make, with what they say to it, lent.
+/// The kinds of servers.
 #[derive(Clone, Copy, Debug)]
-pub enum Begun<'a> {
-    /// A tree in memory, with these digits as its limit, or none: `/hurd/tmpfs`, alone or with one word `--size=` and a number behind it.
-    Tmpfs(&'a [u8]),
-    /// A file that gives this text: `/hurd/hello`, alone or with one word `--contents=` and the text behind it.
-    Hello(&'a [u8]),
+pub enum ServerKind {
+    /// A tree in memory, whose text is the digits of its limit, or none: `/hurd/tmpfs`, alone or with one word `--size=` and a number behind it.
+    Tmpfs,
+    /// A file that gives its text: `/hurd/hello`, alone or with one word `--contents=` and the text behind it.
+    Hello,
     /// A stream without bytes: `/hurd/null` alone.
     Null,
     /// A stream of zero bytes: `/hurd/zero` alone.
     Zero,
-    /// A link to this path of 1 to 1,024 bytes: `/hurd/symlink` and the path.
-    Symlink(&'a [u8]),
-    /// A firm link to this path from the root of the tree, of at most 1,024 bytes: `/hurd/firmlink` and the path.
-    Firmlink(&'a [u8]),
+    /// A link to the path that is its text, of 1 to 1,024 bytes: `/hurd/symlink` and the path.
+    Symlink,
+    /// A firm link to the path that is its text, from the root of the tree, of at most 1,024 bytes: `/hurd/firmlink` and the path.
+    Firmlink,
     /// A union of the directories of 1 to 16 such paths: `/hurd/union` and the paths.
-    Union(&'a [Bytes]),
-    /// A magical link: `/hurd/magic` and `fd`.
+    Union,
+    /// A magical link, whose text is `fd`: `/hurd/magic` and that.
     Magic,
-    /// A drip of as many bytes as these digits say, 0 to 1,000: `/hurd/drip` and the digits.
-    Drip(&'a [u8]),
+    /// A drip of as many bytes as the digits of its text say, 0 to 1,000: `/hurd/drip` and the digits.
+    Drip,
     /// A pipe: `/hurd/fifo` alone.
     Fifo,
 }
 
-/// What the words behind a program's name say to a kind that wants none.
-fn alone<'a>(kind: Begun<'a>, arguments: &[Bytes]) -> Option<Begun<'a>>
-    ensures { option_map server_said result ≡ option_map (λ _. server_said kind.entry) (no_text arguments.now) }
+/// The kind of server that some words make, with what they say to it, lent.
+#[derive(Clone, Copy, Debug)]
+pub struct Begun<'a> {
+    pub kind: ServerKind,
+    /// Its text; none of a union, whose text is its paths.
+    pub text: &'a [u8],
+    /// The paths of a union; none of any other kind.
+    pub paths: &'a [Bytes],
+}
+
+/// The text that the words behind a program's name say to a kind that wants none.
+fn alone(arguments: &[Bytes]) -> Option<&[u8]>
+    ensures { option_map (λ text. text.now) result ≡ no_text arguments.now }
 {
     match arguments {
-        [] => Some(kind),
+        [] => Some(&[]),
         _ => None,
     }
 }
@@ -95,35 +106,33 @@ pub fn size_in(word: &[u8]) -> Option<&[u8]>
 }
 
 /// What the words behind `/hurd/tmpfs` say: nothing, or one `--size=` with a number behind it.
-fn tree(arguments: &[Bytes]) -> Option<Begun<'_>>
-    ensures { option_map server_said result ≡ option_map (new_server Tmpfs) (tmpfs_text arguments.now) }
+fn tree(arguments: &[Bytes]) -> Option<&[u8]>
+    ensures { option_map (λ text. text.now) result ≡ tmpfs_text arguments.now }
 {
     match arguments {
-        [] => Some(Begun::Tmpfs(&[])),
-        [word] => Some(Begun::Tmpfs(size_in(word.as_slice())?)),
+        [] => Some(&[]),
+        [word] => size_in(word.as_slice()),
         _ => None,
     }
 }
 
 /// What the words behind `/hurd/hello` say: nothing, or one `--contents=` with a text behind it.
-fn hello(arguments: &[Bytes]) -> Option<Begun<'_>>
-    ensures { option_map server_said result ≡ option_map (new_server Hello) (hello_text arguments.now) }
+fn hello(arguments: &[Bytes]) -> Option<&[u8]>
+    ensures { option_map (λ text. text.now) result ≡ hello_text arguments.now }
 {
     match arguments {
-        [] => Some(Begun::Hello(b"Hello, world!\n".as_slice())),
-        [word] => Some(Begun::Hello(contents_in(word.as_slice())?)),
+        [] => Some(b"Hello, world!\n".as_slice()),
+        [word] => contents_in(word.as_slice()),
         _ => None,
     }
 }
 
 /// What the words behind `/hurd/symlink` say: one path of 1 to 1,024 bytes.
-fn symlink(arguments: &[Bytes]) -> Option<Begun<'_>>
-    ensures { option_map server_said result ≡ option_map (new_server Symlink) (target_text arguments.now) }
+fn symlink(arguments: &[Bytes]) -> Option<&[u8]>
+    ensures { option_map (λ text. text.now) result ≡ target_text arguments.now }
 {
     match arguments {
-        [path] if !path.is_empty() && path.len() <= MOST_PATH => {
-            Some(Begun::Symlink(path.as_slice()))
-        }
+        [path] if !path.is_empty() && path.len() <= MOST_PATH => Some(path.as_slice()),
         _ => None,
     }
 }
@@ -136,11 +145,11 @@ pub fn is_firm(path: &Bytes) -> bool
 }
 
 /// What the words behind `/hurd/firmlink` say: one path from the root of the tree.
-fn firmlink(arguments: &[Bytes]) -> Option<Begun<'_>>
-    ensures { option_map server_said result ≡ option_map (new_server Firmlink) (firm_text arguments.now) }
+fn firmlink(arguments: &[Bytes]) -> Option<&[u8]>
+    ensures { option_map (λ text. text.now) result ≡ firm_text arguments.now }
 {
     match arguments {
-        [path] if is_firm(path) => Some(Begun::Firmlink(path.as_slice())),
+        [path] if is_firm(path) => Some(path.as_slice()),
         _ => None,
     }
 }
@@ -162,22 +171,12 @@ pub fn says_targets(arguments: &[Bytes]) -> bool
     }
 }
 
-/// What the words behind `/hurd/union` say: 1 to 16 such paths.
-fn union(arguments: &[Bytes]) -> Option<Begun<'_>>
-    ensures { option_map server_said result ≡ option_map (new_server Union) (union_text arguments.now) }
-{
-    if !says_targets(arguments) {
-        return None;
-    }
-    Some(Begun::Union(arguments))
-}
-
 /// What the words behind `/hurd/magic` say: `fd` alone.
-fn magic(arguments: &[Bytes]) -> Option<Begun<'_>>
-    ensures { option_map server_said result ≡ option_map (new_server Magic) (magic_text arguments.now) }
+fn magic(arguments: &[Bytes]) -> Option<&[u8]>
+    ensures { option_map (λ text. text.now) result ≡ magic_text arguments.now }
 {
     match arguments {
-        [what] if what.is(b"fd") => Some(Begun::Magic),
+        [what] if what.is(b"fd") => Some(b"fd".as_slice()),
         _ => None,
     }
 }
@@ -205,12 +204,37 @@ pub fn says_drops(digits: &[u8]) -> bool
 }
 
 /// What the words behind `/hurd/drip` say: how many bytes it has.
-fn drip(arguments: &[Bytes]) -> Option<Begun<'_>>
-    ensures { option_map server_said result ≡ option_map (new_server Drip) (drip_text arguments.now) }
+fn drip(arguments: &[Bytes]) -> Option<&[u8]>
+    ensures { option_map (λ text. text.now) result ≡ drip_text arguments.now }
 {
     match arguments {
-        [digits] if says_drops(digits.as_slice()) => Some(Begun::Drip(digits.as_slice())),
+        [digits] if says_drops(digits.as_slice()) => Some(digits.as_slice()),
         _ => None,
+    }
+}
+
+/// What the words behind `/hurd/union` say: 1 to 16 such paths.
+fn union(arguments: &[Bytes]) -> Option<Begun<'_>>
+    ensures { option_map server_said result ≡ option_map (new_server Union) (union_text arguments.now) }
+{
+    if !says_targets(arguments) {
+        return None;
+    }
+    Some(Begun {
+        kind: ServerKind::Union,
+        text: &[],
+        paths: arguments,
+    })
+}
+
+/// A kind that is no union, with the text that is said to it.
+fn saying(kind: ServerKind, text: &[u8]) -> Begun<'_>
+    ensures { server_said result ≡ new_server kind (text_said kind text.now []) }
+{
+    Begun {
+        kind,
+        text,
+        paths: &[],
     }
 }
 
@@ -219,25 +243,25 @@ fn named<'a>(program: &Bytes, arguments: &'a [Bytes]) -> Option<Begun<'a>>
     ensures { option_map server_said result ≡ begin (program.now ∷ arguments.now) }
 {
     if program.is(b"/hurd/tmpfs") {
-        tree(arguments)
+        Some(saying(ServerKind::Tmpfs, tree(arguments)?))
     } else if program.is(b"/hurd/hello") {
-        hello(arguments)
+        Some(saying(ServerKind::Hello, hello(arguments)?))
     } else if program.is(b"/hurd/null") {
-        alone(Begun::Null, arguments)
+        Some(saying(ServerKind::Null, alone(arguments)?))
     } else if program.is(b"/hurd/zero") {
-        alone(Begun::Zero, arguments)
+        Some(saying(ServerKind::Zero, alone(arguments)?))
     } else if program.is(b"/hurd/symlink") {
-        symlink(arguments)
+        Some(saying(ServerKind::Symlink, symlink(arguments)?))
     } else if program.is(b"/hurd/firmlink") {
-        firmlink(arguments)
+        Some(saying(ServerKind::Firmlink, firmlink(arguments)?))
     } else if program.is(b"/hurd/union") {
         union(arguments)
     } else if program.is(b"/hurd/magic") {
-        magic(arguments)
+        Some(saying(ServerKind::Magic, magic(arguments)?))
     } else if program.is(b"/hurd/drip") {
-        drip(arguments)
+        Some(saying(ServerKind::Drip, drip(arguments)?))
     } else if program.is(b"/hurd/fifo") {
-        alone(Begun::Fifo, arguments)
+        Some(saying(ServerKind::Fifo, alone(arguments)?))
     } else {
         None
     }
@@ -246,7 +270,7 @@ fn named<'a>(program: &Bytes, arguments: &'a [Bytes]) -> Option<Begun<'a>>
 /// The server that these words make, by its kind and by what they say to it; none where no kind takes them.
 pub fn begun_by(words: &[Bytes]) -> Option<Begun<'_>>
     ensures begins { option_map server_said result ≡ begin words.now }
-    ensures kind { IfSome result (λ b. begin_as (server_said b).kind words.now ≡ Some (server_said b)) }
+    ensures kind { IfSome result (λ b. begin_as b.kind words.now ≡ Some (server_said b)) }
     ensures fit { IsWithinLimits words.now → IfSome result IsFit }
 {
     match words {

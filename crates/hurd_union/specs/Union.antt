@@ -1,5 +1,6 @@
 -- What a union means.
-use Rattle.hurd_trans_iface.specs.Meaning.{Meaning, Union as UnionKind}
+use Rattle.hurd_trans_iface.specs.Meaning.{Meaning}
+use Rattle.hurd_trans_iface.specs.declared.begun.ServerKind.TheVariants.{Union as UnionKind}
 use Rattle.hurd_small.specs.declared.lone.Lone.{Lone}
 use Rattle.hurd_small.specs.declared.still.Still.{Still}
 use Rattle.hurd_small.specs.Meanings.{meaning_as}

@@ -1,7 +1,7 @@
 //! What a union says of itself.
 ghost use Rattle.std.specs.Prelude.{◌≡◌, ◌∷◌, [], Ok, IfOk, codes, refl};
-ghost use Rattle.hurd_trans_iface.specs.Meaning.{Union as UnionKind};
-ghost use Rattle.hurd_trans_iface.specs.UnionKind.{words_of};
+ghost use Rattle.hurd_trans_iface.specs.declared.begun.ServerKind.TheVariants.{Union as UnionKind};
+ghost use Rattle.hurd_trans_iface.specs.Kinds.Union.{words_of};
 ghost use Rattle.hurd_trans_iface.specs.Words.{IsWithinLimits};
 
 use hurd_creds::{Bytes, Errno, Kind};
@@ -27,6 +27,8 @@ impl Single for Branches {
     ghost text = { λ s. s.text };
 
     ghost no_tree = { λ _. refl };
+
+    ghost no_bytes = { λ _. refl };
 
     ghost no_count = { λ _. refl };
 

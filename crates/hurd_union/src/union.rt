@@ -1,15 +1,16 @@
 //! A union of directories.
-ghost use Rattle.std.specs.Prelude.{◌≡◌, ◌∷◌, Some, None, IfOk, IfErr, MatchOption, codes};
-ghost use Rattle.hurd_trans_iface.specs.UnionKind.{text_of};
-ghost use Rattle.hurd_trans_iface.specs.Meaning.{begin, begin_as, new_server, Union as UnionKind};
-ghost use Rattle.hurd_trans_iface.specs.Words.{IsWithinLimits};
+ghost use Rattle.std.specs.Prelude.{◌≡◌, Some, None, IfOk, IfErr, MatchOption};
+ghost use Rattle.hurd_trans_iface.specs.Kinds.Union.{text_of};
+ghost use Rattle.hurd_trans_iface.specs.Meaning.{begin, begin_as, new_server};
+ghost use Rattle.hurd_trans_iface.specs.declared.begun.ServerKind.TheVariants.{Union as UnionKind};
+ghost use Rattle.hurd_trans_iface.specs.Sayings.{Fits};
 ghost use Rattle.hurd_union.specs.Union.{union_meaning};
 
 use crate::branches::{Branches, copies};
 use crate::coded::coded;
 use hurd_creds::{Bytes, Errno};
 use hurd_small::{Lone, Still};
-use hurd_trans_iface::{Begun, Words, begun_by};
+use hurd_trans_iface::{ServerKind, Words, begun_by};
 use std::alloc::{AllocError, Global};
 
 /// A directory that shows what several others have (the Hurd's `/hurd/unionfs`).
@@ -29,15 +30,15 @@ pub fn new_union(alloc: Global, words: &Words) -> Result<Union, Errno>
     let Some(begun) = begun_by(words.as_slice()) else {
         return Err(Errno::EINVAL);
     };
-    match begun {
-        Begun::Union(paths) => Ok(union_of(alloc, paths)?),
+    match begun.kind {
+        ServerKind::Union => Ok(union_of(alloc, begun.paths)?),
         _ => Err(Errno::EINVAL),
     }
 }
 
 /// The union of the directories of these paths. It has no root until one is named.
 pub fn union_of(alloc: Global, paths: &[Bytes]) -> Result<Union, AllocError>
-    requires { IsWithinLimits (codes "/hurd/union" ∷ paths.now) }
+    requires { Fits UnionKind (text_of paths.now) }
     ensures { IfOk result (λ s. union_meaning s ≡ new_server UnionKind (text_of paths.now)) }
 {
     let text = coded(alloc, paths)?;

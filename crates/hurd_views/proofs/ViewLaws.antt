@@ -12,7 +12,8 @@ use Rattle.hurd_machine.proofs.Views.{text_known}
 use Rattle.hurd_nodes.proofs.Sites.{home_by, active_by, site_by}
 use Rattle.hurd_trans_iface.specs.Answers.{is_tree}
 use Rattle.hurd_trans_iface.specs.Nodes.{Entry}
-use Rattle.hurd_trans_iface.specs.Meaning.{ServerKind, all_kinds, behaviour_of, root_of}
+use Rattle.hurd_trans_iface.specs.Meaning.{all_kinds, behaviour_of, root_of}
+use Rattle.hurd_trans_iface.specs.declared.begun.ServerKind.{ServerKind}
 use Rattle.hurd_trans_iface.specs.Texts.{is_link, told_text}
 use Rattle.hurd_trans_iface.specs.declared.root.Root.{Root}
 use Rattle.hurd_trans_iface.proofs.Goods.{good, kind_among, kind_named}

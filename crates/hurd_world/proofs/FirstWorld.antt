@@ -9,7 +9,8 @@ use Rattle.hurd_creds.proofs.NameLaws.{get_here, same_name-itself}
 use Rattle.hurd_creds.proofs.MapLaws.{get-map_values}
 use Rattle.hurd_trans_iface.specs.declared.root.Root.{Root}
 use Rattle.hurd_trans_iface.proofs.BodyLaws.{begun_has, begun_holds}
-use Rattle.hurd_trans_iface.specs.Meaning.{Begins, ServerKind, behaviour_of, new_server, root_of, targets_of}
+use Rattle.hurd_trans_iface.specs.Meaning.{Begins, behaviour_of, new_server, root_of, targets_of}
+use Rattle.hurd_trans_iface.specs.declared.begun.ServerKind.{ServerKind}
 use Rattle.hurd_trans_iface.proofs.Beginnings.{begun-new}
 use Rattle.hurd_trans_iface.proofs.Goods.{tree-told}
 use Rattle.hurd_nodes.specs.Shown.{boot_info}

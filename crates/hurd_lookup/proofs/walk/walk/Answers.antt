@@ -13,8 +13,8 @@ returns-in_err-node g c =
     let q = authority_of c.args.authority in
     let p = err_from_is_err_and c.from_residual.result c.from_residual.ensures.1 in
     rw (p.1, p.2)
-    (sym c.loop-name.invariant
-    ∙ ap (walk w q c.args.request c.loop-name.here) c.in-Some.ensures.0
+    (sym c.loop-name.invariant.0
+    ∙ ap (walk w q c.args.request c.loop-name.here.node) c.in-Some.ensures.0
     ∙ c.in_err-node.ensures (λ n. walk w q c.args.request n (names_in c.in-Some.after.now)))
 
 pub returns-in-To : goal.returns-in-To
@@ -22,8 +22,8 @@ returns-in-To g c =
     let w = world_of g.S.Server.meaning c.args.core.now in
     let q = authority_of c.args.authority in
     let goes = rw c.in-To.is at c.in_ok-node.ensures in (
-      sym c.loop-name.invariant
-          ∙ ap (walk w q c.args.request c.loop-name.here) c.in-Some.ensures.0
+      sym c.loop-name.invariant.0
+          ∙ ap (walk w q c.args.request c.loop-name.here.node) c.in-Some.ensures.0
           ∙ goes.0 (λ n. walk w q c.args.request n (names_in c.in-Some.after.now)),
       goes.1,
     )
@@ -32,13 +32,15 @@ pub loop-name-preserved : goal.loop-name-preserved
 loop-name-preserved g c =
     let w = world_of g.S.Server.meaning c.args.core.now in
     let q = authority_of c.args.authority in
-    let goes = rw c.in-On.is at c.in_ok-node.ensures in
-    sym (goes (λ n. walk w q c.args.request n (names_in c.in-Some.after.now)))
-    ∙ sym (ap (walk w q c.args.request c.loop-name.here) c.in-Some.ensures.0)
-    ∙ c.loop-name.invariant
+    let goes = rw c.in-On.is at c.in_ok-node.ensures in (
+      sym (goes.0 (λ n. walk w q c.args.request n (names_in c.in-Some.after.now)))
+          ∙ sym (ap (walk w q c.args.request c.loop-name.here.node) c.in-Some.ensures.0)
+          ∙ c.loop-name.invariant.0,
+      goes.1,
+    )
 
 pub returns : goal.returns
 returns g c =
     let w = world_of g.S.Server.meaning c.args.core.now in
     let q = authority_of c.args.authority in
-    rw (sym c.loop-name.invariant ∙ ap (walk w q c.args.request c.loop-name.here) c.in_default.ensures) (c.arrive.ensures w q)
+    rw (sym c.loop-name.invariant.0 ∙ ap (walk w q c.args.request c.loop-name.here.node) c.in_default.ensures) (c.arrive.ensures w q c.loop-name.invariant.1)

@@ -1,7 +1,6 @@
 use Rattle.std.proofs.Common.{arith}
 use Rattle.std.proofs.lemmas.Grind.{common_steps}
-use Rattle.hurd_trans_iface.proofs.Fits.{begun-fits}
-use Rattle.hurd_trans_iface.proofs.Sayings.{begun-kind}
+use Rattle.hurd_trans_iface.proofs.Sayings.{begun-fits, begun-kind}
 use Rattle.hurd_trans_iface.proofs.begun.begun_by.Goals as goal
 
 pub returns-in-len1-up-clause-begins : goal.returns-in-len1-up-clause-begins

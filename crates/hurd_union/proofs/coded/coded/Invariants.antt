@@ -1,5 +1,5 @@
 use Rattle.std.proofs.Common.{◌≡◌, ◌++◌, drop}
-use Rattle.hurd_trans_iface.specs.UnionKind.{text_of}
+use Rattle.hurd_trans_iface.specs.Kinds.Union.{text_of}
 use Rattle.hurd_union.proofs.coded.coded.Given as goal
 
 -- the text of the words that are left is missing

@@ -1,5 +1,5 @@
 use Rattle.std.proofs.Common.{◌≡◌, ◌++◌, drop}
-use Rattle.hurd_trans_iface.specs.UnionKind.{marked}
+use Rattle.hurd_trans_iface.specs.Kinds.Union.{marked}
 use Rattle.hurd_union.proofs.coded.push_word.Given as goal
 
 -- the bytes that are left are missing

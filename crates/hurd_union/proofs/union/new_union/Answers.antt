@@ -1,8 +1,8 @@
 use Rattle.std.proofs.Common.{refl}
-use Rattle.hurd_trans_iface.specs.Meaning.{Union as UnionKind}
+use Rattle.hurd_trans_iface.specs.declared.begun.ServerKind.TheVariants.{Union as UnionKind}
 use Rattle.hurd_trans_iface.proofs.Sayings.{begun-other}
 use Rattle.hurd_union.proofs.union.new_union.Goals as goal
 
-pub returns-in_default-begun-clause-err : goal.returns-in_default-begun-clause-err
-returns-in_default-begun-clause-err c =
-    rw (begun-other UnionKind c.as_slice.ensures c.begun_by.ensures.begins c.in-Some.is (λ o. c.in_default-begun.not-Union o.0 o.1)) refl
+pub returns-in_default-kind-clause-err : goal.returns-in_default-kind-clause-err
+returns-in_default-kind-clause-err c =
+    rw (begun-other UnionKind c.as_slice.ensures c.begun_by.ensures.begins c.in-Some.is c.in_default-kind.not-Union) refl

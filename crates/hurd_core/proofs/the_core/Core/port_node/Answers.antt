@@ -8,5 +8,5 @@ use Rattle.hurd_core.proofs.the_core.Core.port_node.Goals as goal
 pub returns-clause-is : goal.returns-clause-is
 returns-clause-is g c =
     rw (← c.self.view_is)
-    (sym (port_told (world_from (shown g.S.Server.meaning c.self.inside.nodes) c.self.inside.ports.state) c.args.task.0 c.args.port c.in_ok-right.right.now c.in-Some.attrs (option_copied c.passive-words.result)
-    (sym c.in_ok-right.ensures) c.in-Some.ensures.all c.passive-words.ensures))
+    (sym (port_told (world_from (shown g.S.Server.meaning c.self.inside.nodes) c.self.inside.ports.state) c.args.task.0 c.args.port c.in_ok-right.right.now c.in-Some.attrs (option_copied c.words_told-words.result)
+    (sym c.in_ok-right.ensures) c.in-Some.ensures.all (rw c.self.view_is at c.words_told-words.ensures)))

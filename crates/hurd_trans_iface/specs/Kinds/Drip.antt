@@ -1,5 +1,6 @@
 -- A stream of as many bytes as its word says, one for each read, after which reads fail.
-use Rattle.std.specs.Prelude.{ℕ, zero, suc, ◌-◌, ◌&&◌, Bool, true, false, if◌then◌else◌, List, [], ◌∷◌, ◌++◌, length, nat_lt, nat_le, codes, Option, Some, None, Ok, Err}
+use Rattle.std.specs.Prelude.{ℕ, zero, suc, ◌-◌, ◌==◌, ◌&&◌, Bool, true, false, if◌then◌else◌, List, [], ◌∷◌, ◌++◌, length, nat_lt, nat_le, codes, Option, Some, None, Ok, Err}
+use Rattle.std.specs.List.{list_all}
 use Rattle.hurd_creds.specs.declared.attrs.Kind.TheVariants.{File}
 use Rattle.hurd_creds.specs.declared.errno.Errno.TheVariants.{EFBIG, EIO, EOPNOTSUPP}
 use Rattle.hurd_creds.specs.Limits.{most_size}
@@ -54,6 +55,11 @@ abbrev pub next_drop : ℕ → ℕ
 next_drop zero = 0
 next_drop (suc left) = 1
 
+-- what it has given, all of it drops
+abbrev pub holds_drops : Body → Bool
+holds_drops (Content given) = list_all (λ b. b == drop_byte) given
+holds_drops (Listing es) = true
+
 -- it takes no bytes, and no size
 abbrev pub drip : Behaviour
 drip = record {
@@ -61,11 +67,15 @@ drip = record {
   begins = drip_text;
   options = λ text. codes "/hurd/drip" ∷ text ∷ [];
   set_options = no_options;
+  fits = says_drops;
+  aims = false;
   targets = λ text. [];
   root = λ text. record (plain_root File) { is_stream = true };
   tree = false;
   counts = false;
   limit = λ text. None;
+  first = λ text. [];
+  holds = holds_drops;
   size = drops_left;
   read = λ text x at amount writers. dripped x.header.size amount;
   write = λ text x at bs readers. Err EOPNOTSUPP;

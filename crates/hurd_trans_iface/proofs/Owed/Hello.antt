@@ -11,8 +11,8 @@ use Rattle.hurd_creds.specs.declared.errno.Errno.TheVariants.{EINVAL}
 use Rattle.hurd_creds.specs.Memory.{is_no_memory}
 use Rattle.hurd_trans_iface.specs.Good.{GuardsText}
 use Rattle.hurd_trans_iface.specs.Words.{IsWithinLimits}
-use Rattle.hurd_trans_iface.specs.Meaning.{Hello}
-use Rattle.hurd_trans_iface.specs.HelloKind.{behind, hello, hello_options, hello_text, most_text, says_text, short_text, text_in, hello_kind}
+use Rattle.hurd_trans_iface.specs.declared.begun.ServerKind.TheVariants.{Hello}
+use Rattle.hurd_trans_iface.specs.Kinds.Hello.{behind, hello, hello_options, hello_text, most_text, says_text, short_text, text_in, hello_kind}
 use Rattle.hurd_trans_iface.proofs.Owes.{Owes, or_none, told_if, within-two, two-within, OptionLaws}
 use Rattle.hurd_trans_iface.proofs.StillOwes.{still_laws}
 
@@ -71,7 +71,7 @@ behind-short first word text h =
     let rest : length text ≡ length (drop (length first) word) = ap length (sym told.1) in
     grind (arith, nat_tests, long, rest, length-take (length first) word, length-drop (length first) word)
 
-pub text-short : (w : List ℕ) (ws : List (List ℕ)) (text : List ℕ) → IsWithinLimits (w ∷ ws) → w ≡ codes "/hurd/hello" → hello_text ws ≡ Some text → length text ≤ most_text
+text-short : (w : List ℕ) (ws : List (List ℕ)) (text : List ℕ) → IsWithinLimits (w ∷ ws) → w ≡ codes "/hurd/hello" → hello_text ws ≡ Some text → length text ≤ most_text
 text-short w [] text within is h = let same : codes "Hello, world!\n" ≡ text = cc in subst (λ (t : List ℕ). length t ≤ most_text) same (omega arith)
 text-short w (v ∷ []) text within is h =
     let all = within-two w v within in
@@ -79,6 +79,9 @@ text-short w (v ∷ []) text within is h =
     let rest = behind-short (codes "--contents=") v text h in
     omega arith
 text-short w (v ∷ u ∷ ws) text within is h = absurd (cc)
+
+text-fits : (ws : List (List ℕ)) (text : List ℕ) → IsWithinLimits (hello.program ∷ ws) → hello_text ws ≡ Some text → nat_le (length text) most_text ≡ true
+text-fits ws text within h = let short = text-short hello.program ws text within refl h in grind (arith, nat_tests)
 
 -- reading gives it
 hello_guards : GuardsText hello
@@ -101,7 +104,7 @@ hello_owes = record {
     gives = λ text at amount. tt;
     takes = λ bs. refl;
     cut = refl;
-    again = λ ws text h. refl;
+    said = record { fits = text-fits; again = λ ws text h. refl; aimless = λ no text. refl };
     options = hello_options_laws;
   });
 }

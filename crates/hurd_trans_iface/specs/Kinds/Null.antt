@@ -1,8 +1,8 @@
 -- A stream without bytes, which drops what it takes.
-use Rattle.std.specs.Prelude.{true, [], length, codes, Ok}
+use Rattle.std.specs.Prelude.{true, false, [], length, codes, Ok}
 use Rattle.hurd_creds.specs.declared.attrs.Kind.TheVariants.{Char}
 use Rattle.hurd_trans_iface.specs.Behaviour.{Behaviour, plain_root}
-use Rattle.hurd_trans_iface.specs.Arguments.{no_text, no_options}
+use Rattle.hurd_trans_iface.specs.Arguments.{is_empty, no_text, no_options}
 use Rattle.hurd_trans_iface.specs.Still.{StillKind, still}
 
 abbrev pub null_kind : StillKind
@@ -11,6 +11,8 @@ null_kind = record {
   begins = no_text;
   arguments = λ text. [];
   set_options = no_options;
+  fits = is_empty;
+  aims = false;
   targets = λ text. [];
   root = λ text. record (plain_root Char) { is_stream = true };
   size = λ text. 0;

@@ -1,5 +1,5 @@
 -- A directory that shows what several others have.
-use Rattle.std.specs.Prelude.{ℕ, zero, suc, ◌&&◌, if◌then◌else◌, List, [], ◌∷◌, ◌++◌, length, nat_le, codes, Option, Some, None, Err}
+use Rattle.std.specs.Prelude.{ℕ, zero, suc, ◌&&◌, if◌then◌else◌, List, [], ◌∷◌, ◌++◌, length, nat_le, codes, Option, Some, None, Err, true}
 use Rattle.std.specs.List.{list_all}
 use Rattle.hurd_creds.specs.declared.attrs.Kind.TheVariants.{Dir}
 use Rattle.hurd_creds.specs.declared.errno.Errno.TheVariants.{EBADF, EISDIR}
@@ -7,7 +7,8 @@ use Rattle.hurd_trans_iface.specs.declared.root.Crossing.TheVariants.{Union}
 use Rattle.hurd_trans_iface.specs.Behaviour.{Behaviour, plain_root}
 use Rattle.hurd_trans_iface.specs.Arguments.{no_options}
 use Rattle.hurd_trans_iface.specs.Still.{StillKind, still}
-use Rattle.hurd_trans_iface.specs.FirmlinkKind.{is_firm}
+use Rattle.hurd_trans_iface.specs.Kinds.Firmlink.{is_firm}
+use Rattle.hurd_trans_iface.specs.Words.{is_within_limits}
 
 -- several words as one text: a byte 0 ends each word, and in a word a byte 1 stands before each 0 and 1
 
@@ -50,6 +51,8 @@ union_kind = record {
   begins = union_text;
   arguments = words_of;
   set_options = no_options;
+  fits = λ text. is_within_limits (codes "/hurd/union" ∷ words_of text);
+  aims = true;
   targets = words_of;
   root = λ text. record (plain_root Dir) { crossing = Union };
   size = λ text. 0;

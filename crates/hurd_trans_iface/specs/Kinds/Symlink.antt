@@ -27,6 +27,8 @@ symlink_kind = record {
   begins = target_text;
   arguments = λ text. text ∷ [];
   set_options = no_options;
+  fits = is_target;
+  aims = false;
   targets = λ text. [];
   root = λ text. record (plain_root LinkNode) { crossing = Link (is_absolute text) };
   size = λ text. length text;

@@ -1,10 +1,11 @@
 -- What a union owes.
-use Rattle.std.proofs.Common.{◌≡◌, ◌∙◌, ◌&&◌, true, List, ℕ, [], ◌∷◌, ◌++◌, zero, suc, length, nat_le, refl, ap, sym, subst}
+use Rattle.std.proofs.Common.{◌≡◌, ◌∙◌, ◌&&◌, true, List, ℕ, [], ◌∷◌, ◌++◌, zero, suc, length, nat_le, true≢false, refl, ap, sym, subst}
 use Rattle.std.specs.Prelude.{Some}
 use Rattle.std.specs.List.{list_all}
-use Rattle.hurd_trans_iface.specs.Meaning.{Union}
-use Rattle.hurd_trans_iface.specs.FirmlinkKind.{is_firm}
-use Rattle.hurd_trans_iface.specs.UnionKind.{marked, most_branches, onto_first, text_of, union, union_text, words_of, union_kind}
+use Rattle.hurd_trans_iface.specs.declared.begun.ServerKind.TheVariants.{Union}
+use Rattle.hurd_trans_iface.specs.Kinds.Firmlink.{is_firm}
+use Rattle.hurd_trans_iface.specs.Kinds.Union.{marked, most_branches, onto_first, text_of, union, union_text, words_of, union_kind}
+use Rattle.hurd_trans_iface.specs.Words.{IsWithinLimits}
 use Rattle.hurd_trans_iface.proofs.Guards.{guards_none}
 use Rattle.hurd_trans_iface.proofs.Owes.{Owes, or_none, without_options, told_if, SaysAgain}
 use Rattle.hurd_trans_iface.proofs.StillOwes.{still_laws}
@@ -29,11 +30,11 @@ paths-again : (ws : List (List ℕ)) (text : List ℕ) → union_text ws ≡ Som
 paths-again [] text h = absurd (cc)
 paths-again (w ∷ ws) text h = let told = paths-told w ws text h in subst (SaysAgain union) told.1 (rw (words_back (w ∷ ws)) (rw told.0 refl))
 
-pub paths-same : (ws paths : List (List ℕ)) → union_text ws ≡ Some (text_of paths) → ws ≡ paths
-paths-same [] paths h = absurd (cc)
-paths-same (w ∷ ws) paths h =
-    let told = paths-told w ws (text_of paths) h in
-    sym (words_back (w ∷ ws)) ∙ ap words_of told.1 ∙ words_back paths
+paths-fit : (ws : List (List ℕ)) (text : List ℕ) → IsWithinLimits (union.program ∷ ws) → union_text ws ≡ Some text → union.fits text ≡ true
+paths-fit [] text within h = absurd (cc)
+paths-fit (w ∷ ws) text within h =
+    let told = paths-told w ws text h in
+    subst (λ (vs : List (List ℕ)). IsWithinLimits (union.program ∷ vs)) (sym (words_back (w ∷ ws)) ∙ ap words_of told.1) within
 
 pub union_owes : Owes Union
 union_owes = record {
@@ -45,7 +46,7 @@ union_owes = record {
     gives = λ text at amount. refl;
     takes = λ bs. refl;
     cut = refl;
-    again = paths-again;
+    said = record { fits = paths-fit; again = paths-again; aimless = λ no. absurd (true≢false no) };
     options = without_options union refl;
   });
 }

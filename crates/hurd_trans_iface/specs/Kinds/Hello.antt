@@ -1,5 +1,5 @@
 -- A file that gives the server's text.
-use Rattle.std.specs.Prelude.{ℕ, ◌-◌, ◌++◌, Bool, if◌then◌else◌, List, [], ◌∷◌, length, take, drop, nat_le, codes, is_some, slice_get, Option, Some, None, Result, Ok, Err}
+use Rattle.std.specs.Prelude.{ℕ, ◌-◌, ◌++◌, Bool, if◌then◌else◌, List, [], ◌∷◌, length, take, drop, nat_le, codes, is_some, slice_get, Option, Some, None, Result, Ok, Err, false}
 use Rattle.std.specs.List.{list_all}
 use Rattle.hurd_creds.specs.declared.attrs.Kind.TheVariants.{File}
 use Rattle.hurd_creds.specs.declared.errno.Errno.{Errno}
@@ -46,6 +46,8 @@ hello_kind = record {
   begins = hello_text;
   arguments = λ text. (codes "--contents=" ++ text) ∷ [];
   set_options = hello_options;
+  fits = λ text. nat_le (length text) most_text;
+  aims = false;
   targets = λ text. [];
   root = λ text. plain_root File;
   size = λ text. length text;

@@ -1,5 +1,5 @@
 -- A firm link, which leads to the node that its path led to when it began.
-use Rattle.std.specs.Prelude.{ℕ, ◌&&◌, Bool, List, [], ◌∷◌, length, nat_le, codes, Option, Ok, Err}
+use Rattle.std.specs.Prelude.{ℕ, ◌&&◌, Bool, List, [], ◌∷◌, length, nat_le, codes, Option, Ok, Err, true}
 use Rattle.hurd_creds.specs.declared.attrs.Kind.TheVariants.{File}
 use Rattle.hurd_creds.specs.declared.errno.Errno.TheVariants.{EOPNOTSUPP}
 use Rattle.hurd_creds.specs.Limits.{most_path}
@@ -7,7 +7,7 @@ use Rattle.hurd_trans_iface.specs.declared.root.Crossing.TheVariants.{Firm}
 use Rattle.hurd_trans_iface.specs.Behaviour.{Behaviour, plain_root}
 use Rattle.hurd_trans_iface.specs.Arguments.{one_word, no_options}
 use Rattle.hurd_trans_iface.specs.Still.{StillKind, still}
-use Rattle.hurd_trans_iface.specs.SymlinkKind.{is_absolute}
+use Rattle.hurd_trans_iface.specs.Kinds.Symlink.{is_absolute}
 
 -- a path from the root of the tree
 abbrev pub is_firm : List ℕ → Bool
@@ -24,6 +24,8 @@ firmlink_kind = record {
   begins = firm_text;
   arguments = λ text. text ∷ [];
   set_options = no_options;
+  fits = is_firm;
+  aims = true;
   targets = λ text. text ∷ [];
   root = λ text. record (plain_root File) { crossing = Firm };
   size = λ text. 0;
