@@ -5,7 +5,7 @@ use Rattle.hurd_creds.specs.declared.mode.Mode.{Mode}
 use Rattle.hurd_creds.specs.TransBits.{ORPHAN, SET, asks_trans}
 use Rattle.hurd_trans_iface.specs.Nodes.{with_passive}
 use Rattle.hurd_machine.proofs.Common.{Attach, Body, Change, DropServer, EditHeader, Errno, IdSets, Meaning, Name, Named, Node, PendingStart, Settle, Task, Unseat, World, begun_info, begun_root, root_body, fresh, is_dir}
-use Rattle.hurd_trans_iface.specs.Meaning.{root_of}
+use Rattle.hurd_trans_iface.specs.Meaning.{behaviour_of, root_of}
 use Rattle.hurd_ports.specs.Steps.{named, with_pending}
 use Rattle.hurd_machine.specs.declared.call.Setting.{Setting}
 use Rattle.hurd_machine.specs.Plan.{Plan}

@@ -3,7 +3,7 @@ use Rattle.std.proofs.Common.{◌≡◌, inl, inr, ℕ, ◌+◌, ◌<◌, Bool, 
 use Rattle.std.specs.Prelude.{Option, Some, None, cond}
 use Rattle.std.specs.Option.{option_map}
 use Rattle.std.specs.FinMap as fin
-use Rattle.hurd_machine.proofs.Common.{AreFilled, AreSeated, AreTables, AtRest, Below, Control, Dir, Hangs, HasDistinctNames, Header, IdSets, Io, IsAmong, IsFilled, IsGivenRight, IsShaped, Kind, Linked, Meaning, Name, Node, NodeState, Opened, Right, ServerInfo, Site, Sound, Start, Task, WRITE, World, active_in, asks, body_of, boot_mode, boot_name, booted, empty_body, header_of, home_in, info_in, is_dir, is_plain, is_tree, lists, lists_at, name_of, new_root, new_site, rights_of, server_of, state_of, task_at, times_in, times_listed, tree_by, ways_of}
+use Rattle.hurd_machine.proofs.Common.{AreFilled, AreSeated, AreTables, AtRest, Below, Control, Dir, Hangs, HasDistinctNames, Header, IdSets, Io, IsAmong, IsFilled, IsGivenRight, IsShaped, Kind, Linked, Meaning, Name, Node, NodeState, Opened, Right, ServerInfo, Site, Sound, Start, Task, WRITE, World, active_in, asks, body_of, boot_mode, boot_name, booted, root_body, header_of, home_in, info_in, is_dir, is_plain, is_tree, lists, lists_at, name_of, new_root, new_site, rights_of, server_of, state_of, task_at, times_in, times_listed, tree_by, ways_of}
 use Rattle.hurd_nodes.proofs.Sites.{site-of, seat-site, home_by}
 use Rattle.hurd_creds.proofs.NameLaws.{get_here, same_name-itself}
 use Rattle.hurd_creds.proofs.MapLaws.{get-map_values}
@@ -27,23 +27,23 @@ option_map-origin : {A B : Type 0} (f : A → B) (o : Option A) (y : B) → opti
 option_map-origin f None y h = absurd (cc)
 option_map-origin f (Some x) y h = (x, refl, cc)
 
--- bodies that nothing is in yet
+-- bodies of roots
 
-empty_shaped : (k : Kind) (h : Header) → h.kind ≡ k → IsShaped h (empty_body (is_dir k))
-empty_shaped Dir h e = e
-empty_shaped _ h e = rw e refl
+first_shaped : (k : Kind) (h : Header) (bs : List ℕ) → h.kind ≡ k → IsShaped h (root_body (is_dir k) bs)
+first_shaped Dir h bs e = e
+first_shaped _ h bs e = rw e refl
 
-empty_distinct : (b : Bool) → HasDistinctNames (empty_body b)
-empty_distinct true = tt
-empty_distinct false = tt
+first_distinct : (b : Bool) (bs : List ℕ) → HasDistinctNames (root_body b bs)
+first_distinct true bs = tt
+first_distinct false bs = tt
 
-empty_times : (b : Bool) (n : Name) → times_in n (empty_body b) ≡ 0
-empty_times true n = refl
-empty_times false n = refl
+first_times : (b : Bool) (bs : List ℕ) (n : Name) → times_in n (root_body b bs) ≡ 0
+first_times true bs n = refl
+first_times false bs n = refl
 
-empty_lists : (b : Bool) (n : Name) → lists n (empty_body b) ≡ false
-empty_lists true n = refl
-empty_lists false n = refl
+first_lists : (b : Bool) (bs : List ℕ) (n : Name) → lists n (root_body b bs) ≡ false
+first_lists true bs n = refl
+first_lists false bs n = refl
 
 -- the boot server, begun: its root is the only node
 module _ (kind : ServerKind) (text : List ℕ) where
@@ -86,7 +86,7 @@ module _ (kind : ServerKind) (text : List ℕ) where
     where
       by_body : (o : Option Node) → fin.get state.nodes d ≡ o → lists_at n (option_map (λ (x : Node). x.body) o) ≡ true → ⊥
       by_body None e h = true≢false (sym h)
-      by_body (Some x) e h = true≢false (sym h ∙ ap (λ (y : Node). lists n y.body) (node_only d x e).1 ∙ empty_lists (is_dir (root_of kind text).kind) n)
+      by_body (Some x) e h = true≢false (sym h ∙ ap (λ (y : Node). lists n y.body) (node_only d x e).1 ∙ first_lists (is_dir (root_of kind text).kind) ((behaviour_of kind).first text) n)
 
   housed : AreHoused state
   housed = record {
@@ -119,8 +119,8 @@ module _ (kind : ServerKind) (text : List ℕ) where
     kin = λ d n is. absurd (no_entry d n is);
     trees = λ d n is. absurd (no_entry d n is);
     below = λ d n k is there dir. absurd (no_entry d n is);
-    shapes = λ n x is. rw (node_only n x is).1 (empty_shaped (root_of kind text).kind root.header refl);
-    distinct = λ n x is. rw (node_only n x is).1 (empty_distinct (is_dir (root_of kind text).kind));
+    shapes = λ n x is. rw (node_only n x is).1 (first_shaped (root_of kind text).kind root.header ((behaviour_of kind).first text) refl);
+    distinct = λ n x is. rw (node_only n x is).1 (first_distinct (is_dir (root_of kind text).kind) ((behaviour_of kind).first text));
     root = (root.header, root_header);
     boot = root_is_root state boot_name info root_server root_home;
     served = root_home;
@@ -140,7 +140,7 @@ module _ (kind : ServerKind) (text : List ℕ) where
   -- nothing names the root
   root_unnamed : times_listed state.nodes boot_name ≡ 0
   unfolding times_listed
-  root_unnamed = total_none (λ (x : Node). times_in boot_name x.body) state.nodes (λ n x is. rw (node_only n x is).1 (empty_times (is_dir (root_of kind text).kind) boot_name))
+  root_unnamed = total_none (λ (x : Node). times_in boot_name x.body) state.nodes (λ n x is. rw (node_only n x is).1 (first_times (is_dir (root_of kind text).kind) ((behaviour_of kind).first text) boot_name))
 
   -- where it keeps a tree, the root is a directory
   root_links : (r : Root) (t : ℕ) → is_tree r ≡ true → 1 ≡ cond (is_dir r.kind) 1 t
