@@ -28,7 +28,7 @@ plain_or b ys p = go (is_printable b) refl
 
 -- digits
 
-digit_printable : (d : ℕ) → d < 10 → is_printable (48 + d) ≡ true
+pub digit_printable : (d : ℕ) → d < 10 → is_printable (48 + d) ≡ true
 digit_printable d small = grind (arith, nat_tests)
 
 hex_printable : (v : ℕ) → v < 16 → is_printable (hex_letter v) ≡ true

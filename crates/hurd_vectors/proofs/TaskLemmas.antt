@@ -23,26 +23,25 @@ pub skipped : (text : List ℕ) (first : Bool) (line : List ℕ) (lines : List (
 skipped text first line lines is = no_task text first line lines (rw is refl)
 
 other_line : (line : List ℕ) → is_skipped line ≡ false → ids_on line ≡ ids_by (line_words line)
-other_line line said = rw said refl
+other_line line there = rw there refl
 
 pub other : (text : List ℕ) (first : Bool) (line : List ℕ) (lines words : List (List ℕ)) → is_skipped line ≡ false → words ≡ line_words line → begins_with (codes "task") words ≡ false
     → text ++ tasks_text first lines ≡ text ++ tasks_text first (line ∷ lines)
-other text first line lines words said are no =
-    let by : ids_by words ≡ None = rw no refl in
-    no_task text first line lines (other_line line said ∙ (ap ids_by (sym are) ∙ by))
+other text first line lines words there are none =
+    let by : ids_by words ≡ None = rw none refl in
+    no_task text first line lines (other_line line there ∙ (ap ids_by (sym are) ∙ by))
 
 -- a task's
 pub task_told : (text new : List ℕ) (first : Bool) (line : List ℕ) (lines words : List (List ℕ)) → is_skipped line ≡ false → words ≡ line_words line → begins_with (codes "task") words ≡ true
     → new ≡ text ++ ids_text first (Some (ids_of words)) → new ++ tasks_text false lines ≡ text ++ tasks_text first (line ∷ lines)
-task_told text new first line lines words said are yes e =
-    let by : ids_by words ≡ Some (ids_of words) = rw yes refl in
-    let on : ids_on line ≡ Some (ids_of words) = other_line line said ∙ (ap ids_by (sym are) ∙ by) in
+task_told text new first line lines words there are begun e =
+    let by : ids_by words ≡ Some (ids_of words) = rw begun refl in
+    let on : ids_on line ≡ Some (ids_of words) = other_line line there ∙ (ap ids_by (sym are) ∙ by) in
     ap (λ (t : List ℕ). t ++ tasks_text false lines) e
     ∙ (append_assoc text (ids_text first (Some (ids_of words))) (tasks_text false lines)
     ∙ ap (λ (t : List ℕ). text ++ t) (sym (next_line first line lines (Some (ids_of words)) on ∙ rw (and-false first) refl)))
 
 -- the next line was gone over, or none is left
-
 pub line_next : (whole now new : List ℕ) (first none : Bool) (items : List (Bor (List ℕ))) (i : ℕ) → i < length items
     → new ++ tasks_text none (drop (i + 1) (said items)) ≡ now ++ tasks_text first (piece_at items i ∷ drop (i + 1) (said items))
     → now ++ tasks_text first (drop i (said items)) ≡ whole → new ++ tasks_text none (drop (i + 1) (said items)) ≡ whole

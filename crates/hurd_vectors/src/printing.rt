@@ -1,5 +1,5 @@
 //! Printing the vectors of a list.
-ghost use Rattle.std.specs.Prelude.{◌≡◌, ◌≢◌, true, Err, IfErr, IfOk, OnOk, Vec};
+ghost use Rattle.std.specs.Prelude.{◌≡◌, ◌≢◌, ℕ, true, Err, IfErr, IfOk, OnOk, Vec};
 ghost use Rattle.std.specs.Global.{Global};
 ghost use Rattle.std.specs.Option.{option_map};
 ghost use Rattle.std.specs.Io.KnownBytes.{Appends};
