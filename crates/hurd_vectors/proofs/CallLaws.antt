@@ -1,9 +1,6 @@
 -- The vector of a call, and those of the calls behind it.
-use Rattle.std.proofs.Common.{◌≡◌, ◌∙◌, ap, refl, sym, false, ℕ, List, [], ◌∷◌, Ok, Err, Option, map}
-use Rattle.std.specs.Prelude.{IfOk, OnOk, Result, Vec}
-use Rattle.std.specs.Global.{Global}
+use Rattle.std.proofs.Common.{◌≡◌, ◌∙◌, ap, refl, sym, false, ℕ, List, [], ◌∷◌, Option, map}
 use Rattle.std.specs.Option.{option_map}
-use Rattle.std.proofs.lemmas.Result.{IfOk-weaker}
 use Rattle.hurd_trans_iface.specs.Meaning.{Meaning}
 use Rattle.hurd_machine.specs.declared.call.Call as call
 use Rattle.hurd_machine.specs.declared.call.Reply as reply
@@ -27,19 +24,6 @@ pub vector_right : {S : Type 0} (f : S → Meaning) (listed : ListedCall S) (ser
     → line ≡ listed.line → vector ≡ vector_of line (reply_by f r) → vector ≡ vector_in (listed_by f listed) w
 vector_right f listed server made d is w r x called has line vector here e =
     e ∙ (ap (λ (bs : List ℕ). vector_of bs (reply_by f r)) here ∙ ap (vector_of listed.line) (right f listed server made d is w r x called has).0)
-
--- and so what is answered of it, if memory is left
-pub vector_answered : {S E : Type 0} (f : S → Meaning) (listed : ListedCall S) (server : Option S) (made : begun listed.server ≡ option_map f server) (d : call.Call S) (is : d ≡ with_server server listed.call)
-    (w : World) (r : reply.Reply S) (x : World) (called : Called w listed.task.0 (call_by f d) (reply_by f r) x) (has : lacks_memory r ≡ false) (line : List ℕ) (ended : Result (Vec ℕ Global) E)
-    → line ≡ listed.line → IfOk ended (λ v. v.items ≡ vector_of line (reply_by f r)) → IfOk ended (λ v. v.items ≡ vector_in (listed_by f listed) w)
-vector_answered f listed server made d is w r x called has line ended here told =
-    IfOk-weaker ended (λ (v : Vec ℕ Global). v.items ≡ vector_of line (reply_by f r)) (λ (v : Vec ℕ Global). v.items ≡ vector_in (listed_by f listed) w)
-    (λ v so. vector_right f listed server made d is w r x called has line v.items here so) told
-
--- what holds anyway holds where something is there
-pub anyway : {T E P : Type 0} (r : Result T E) → P → OnOk r P
-anyway (Ok x) p = p
-anyway (Err e) p = tt
 
 no_vectors : (w : World) → vectors_from [] w ≡ []
 unfolding vectors_from

@@ -16,7 +16,7 @@ loop-vector-smaller g c =
 pub loop-vector-preserved : goal.loop-vector-preserved
 loop-vector-preserved g c =
     let goes = rw c.in-Some.is at c.in_ok-vector.ensures in
-    let printed = rw c.as_slice.ensures at c.in_ok-print.ensures.ok.0 in
+    let printed = rw c.as_slice.ensures.value at c.in_ok-print.ensures.ok.0 in
     vector_printed _ _ _ (left_of c.loop-vector.calls) c.loop-vector.invariant (left_of c.next_vector.new.calls) c.in-Some.vector.items goes _ printed
 
 pub returns-in_err-vector-clause-err : goal.returns-in_err-vector-clause-err
@@ -29,7 +29,7 @@ returns-in_err-print-clause-err g c =
     let p = err_from_is_err_and c.from_residual-in_err-print.result c.from_residual-in_err-print.ensures.1 in
     let goes = rw c.in-Some.is at c.in_ok-vector.ensures in
     let failed = c.in_err-print.ensures.err in
-    let cut = rw c.as_slice.ensures at failed.2 in
+    let cut = rw c.as_slice.ensures.value at failed.2 in
     rw (p.1, p.2) (inl (failed.0, failed.1), vector_cut _ _ _ (left_of c.loop-vector.calls) c.loop-vector.invariant (left_of c.next_vector.new.calls) c.in-Some.vector.items goes _ cut)
 
 pub returns-clause-ok : goal.returns-clause-ok

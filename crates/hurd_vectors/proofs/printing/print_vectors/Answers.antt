@@ -31,12 +31,12 @@ pub returns-in_err-print-clause-adds : goal.returns-in_err-print-clause-adds
 returns-in_err-print-clause-adds g c =
     let p = err_from_is_err_and c.from_residual-in_err-print.result c.from_residual-in_err-print.ensures.1 in
     let failed = c.in_err-print.ensures.err in
-    let cut = rw c.as_slice.ensures at failed.2 in
+    let cut = rw c.as_slice.ensures.value at failed.2 in
     rw (p.1, p.2) (header_cut c.args.text.now c.in_ok-header.header.items c.in_ok-calls.calls c.in_ok-calls.ensures.ok c.in_ok-header.ensures c.print.new.self _ _ _ failed.0 failed.1 cut)
 
 pub returns-clause-adds : goal.returns-clause-adds
 returns-clause-adds g c =
-    let first = rw c.as_slice.ensures at c.in_ok-print.ensures.ok.0 in
+    let first = rw c.as_slice.ensures.value at c.in_ok-print.ensures.ok.0 in
     calls_add c.args.text.now c.in_ok-header.header.items c.in_ok-calls.calls c.in_ok-calls.ensures.ok c.in_ok-header.ensures c.print_calls.new.output _ _ _ c.print_calls.result first c.print_calls.ensures.ok c.print_calls.ensures.err
 
 pub returns-clause-read : goal.returns-clause-read
