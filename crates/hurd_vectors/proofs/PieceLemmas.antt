@@ -10,3 +10,8 @@ pub four_printed : {T E : Type 0} (r : Result T E) (front a b d e one two three 
     → OnOk r (e ≡ front ++ (one ++ (two ++ (three ++ four))))
 four_printed r front a b d e one two three four i j k last =
     two_printed r front a e one (two ++ (three ++ four)) i (two_printed r a b e two (three ++ four) j (two_printed r b d e three four k last))
+
+-- the same where all was printed
+pub four_are : (front a b d e one two three four : List ℕ) → a ≡ front ++ one → b ≡ a ++ two → d ≡ b ++ three → e ≡ d ++ four → e ≡ front ++ (one ++ (two ++ (three ++ four)))
+four_are front a b d e one two three four i j k l =
+    l ∙ (ap (λ (t : List ℕ). t ++ four) (k ∙ ap (λ (t : List ℕ). t ++ three) (j ∙ ap (λ (t : List ℕ). t ++ two) i)) ∙ simp append_assoc)

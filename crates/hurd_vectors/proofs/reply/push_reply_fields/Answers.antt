@@ -16,11 +16,11 @@ returns-in_ok-extend_from_slice-in-Count g c = rw c.in-Count.is (two_printed c.p
 
 pub returns-in_ok-extend_from_slice-in-Names : goal.returns-in_ok-extend_from_slice-in-Names
 returns-in_ok-extend_from_slice-in-Names g c =
-    rw c.in-Names.is (two_printed c.push_texts.result _ _ _ _ _ c.in_ok-extend_from_slice-in-Names.ensures.items (rw c.as_slice-in-Names.ensures.value at c.push_texts.ensures))
+    rw c.in-Names.is (two_printed c.push_texts.result _ _ _ _ _ c.in_ok-extend_from_slice-in-Names.ensures.items (rw c.as_slice-in-Names.ensures at c.push_texts.ensures))
 
 pub returns-in_ok-extend_from_slice-in-Words : goal.returns-in_ok-extend_from_slice-in-Words
 returns-in_ok-extend_from_slice-in-Words g c =
-    rw c.in-Words.is (two_printed c.push_texts-in-Words.result _ _ _ _ _ c.in_ok-extend_from_slice-in-Words.ensures.items (rw c.as_slice-in-Words.ensures.value at c.push_texts-in-Words.ensures))
+    rw c.in-Words.is (two_printed c.push_texts-in-Words.result _ _ _ _ _ c.in_ok-extend_from_slice-in-Words.ensures.items (rw c.as_slice-in-Words.ensures at c.push_texts-in-Words.ensures))
 
 pub returns-in_ok-extend_from_slice-in-Modes : goal.returns-in_ok-extend_from_slice-in-Modes
 returns-in_ok-extend_from_slice-in-Modes g c = rw c.in-Modes.is (two_printed c.push_modes.result _ _ _ _ _ c.in_ok-extend_from_slice-in-Modes.ensures.items c.push_modes.ensures)
