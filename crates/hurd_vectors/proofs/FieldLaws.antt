@@ -1,5 +1,5 @@
 -- The fields of calls are printable ASCII.
-use Rattle.std.proofs.Common.{◌≡◌, refl, ℕ, List, [], ◌∷◌, ◌++◌, Option, Some, None, codes, drop}
+use Rattle.std.proofs.Common.{refl, ℕ, List, [], ◌∷◌, ◌++◌, Option, Some, None, codes, drop}
 use Rattle.hurd_lists.specs.Calls.{before_box, behind_box}
 use Rattle.hurd_lists.specs.Lists.{verb_named}
 use Rattle.hurd_vectors.specs.Fields.{call_fields, field_name, field_text, fields_of, server_text, sort_of, told_fields, value, word_at, words_behind}

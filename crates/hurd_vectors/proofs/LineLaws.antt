@@ -1,11 +1,10 @@
 -- Each line that is printed is printable ASCII.
-use Rattle.std.proofs.Common.{◌≡◌, ◌⊎◌, inl, inr, ◌∙◌, refl, sym, ap, ℕ, zero, suc, ◌+◌, ◌-◌, ◌/◌, ◌%◌, ◌==◌, ◌&&◌, ◌<◌, Bool, true, false, List, [], ◌∷◌, ◌++◌, Option, Some, None, arith, nat_lt, nat_le, if◌then◌else◌, decimal, mod-lt, bytes_eq, codes, drop}
-use Rattle.std.specs.Fmt.{digit_glyph, digits, digits_onto}
-use Rattle.std.specs.List.{list_all, slice_split}
+use Rattle.std.proofs.Common.{◌≡◌, ◌∙◌, refl, ℕ, ◌+◌, ◌/◌, ◌%◌, ◌==◌, ◌<◌, Bool, true, false, List, [], ◌∷◌, ◌++◌, arith, if◌then◌else◌, bytes_eq, codes}
+use Rattle.std.specs.List.{list_all}
 use Rattle.std.proofs.lemmas.List.Folds.{list_all-append}
 use Rattle.std.proofs.lemmas.Bool.Decides.{nat_tests}
 use Rattle.hurd_words.specs.Escapes.{hex_letter}
-use Rattle.hurd_vectors.specs.Json.{joined_numbers, joined_texts, json, json_byte, more_numbers, more_texts, name_byte, name_bytes, names, natural, number, numbers, quoted, texts, truth}
+use Rattle.hurd_vectors.specs.Json.{json, json_byte, name_byte, name_bytes, names, quoted}
 use Rattle.hurd_vectors.specs.Lines.{is_printable}
 
 abbrev pub Printable : List ℕ → Type 0

@@ -1,5 +1,5 @@
 -- Replies are printable ASCII.
-use Rattle.std.proofs.Common.{◌≡◌, refl, ℕ, ◌+◌, ◌/◌, ◌%◌, ◌==◌, true, List, [], ◌∷◌, ◌++◌, Option, Some, None, arith, codes, decimal}
+use Rattle.std.proofs.Common.{◌≡◌, refl, ℕ, ◌/◌, ◌%◌, ◌==◌, true, List, [], ◌∷◌, ◌++◌, Option, Some, None, arith, codes, decimal}
 use Rattle.hurd_creds.specs.Errors.{name_of}
 use Rattle.hurd_creds.specs.declared.attrs.Kind.{Kind}
 use Rattle.hurd_creds.specs.declared.attrs.Kind.TheVariants.{File}

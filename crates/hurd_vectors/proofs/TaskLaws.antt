@@ -1,5 +1,5 @@
 -- The tasks of a list are printable ASCII.
-use Rattle.std.proofs.Common.{◌≡◌, refl, ℕ, Bool, true, false, ◌&&◌, List, [], ◌∷◌, ◌++◌, Option, Some, None, codes, if◌then◌else◌, is_none}
+use Rattle.std.proofs.Common.{refl, ℕ, Bool, true, false, ◌&&◌, List, [], ◌∷◌, ◌++◌, Some, None, codes, if◌then◌else◌, is_none}
 use Rattle.hurd_words.specs.Lines.{is_skipped}
 use Rattle.hurd_words.specs.Users.{begins_with}
 use Rattle.hurd_vectors.specs.Fields.{word_at}

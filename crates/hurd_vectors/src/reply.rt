@@ -50,7 +50,6 @@ fn push_lookup(text: &mut Vec<u8>, found: &Lookup) -> Result<(), AllocError>
 }
 
 /// Prints whose a node is.
-#[tactic(auto, unfolding(crate::specs::Replies::owner_text))]
 fn push_owner(text: &mut Vec<u8>, stat: &Stat) -> Result<(), AllocError>
     ensures { OnOk result (text.new.items ≡ text.old.items ++ owner_text stat.now) }
 {
@@ -61,7 +60,6 @@ fn push_owner(text: &mut Vec<u8>, stat: &Stat) -> Result<(), AllocError>
 }
 
 /// Prints a mode in octal digits: six, or more where it has them.
-#[tactic(auto, unfolding(crate::specs::Replies::mode_text))]
 fn push_whole_mode(text: &mut Vec<u8>, mode: Mode) -> Result<(), AllocError>
     ensures { OnOk result (text.new.items ≡ text.old.items ++ mode_text mode) }
 {
@@ -73,7 +71,6 @@ fn push_whole_mode(text: &mut Vec<u8>, mode: Mode) -> Result<(), AllocError>
 }
 
 /// Prints how many entries name a node, its size, and whether it has translators.
-#[tactic(auto, unfolding(crate::specs::Replies::rest_text))]
 fn push_rest(text: &mut Vec<u8>, stat: &Stat) -> Result<(), AllocError>
     ensures { OnOk result (text.new.items ≡ text.old.items ++ rest_text stat.now) }
 {
