@@ -2,9 +2,9 @@
 use Rattle.std.specs.Prelude.{IfErr, OnOk, Result}
 use Rattle.std.specs.List.{concat}
 use Rattle.std.specs.Io.KnownBytes.{Appends}
-use Rattle.std.proofs.Common.{◌≡◌, ◌∙◌, ℕ, List, [], ◌∷◌, ◌++◌, Ok, Err, Option, None, true, ap, append-nil, append_assoc, inl, length, refl, subst, suc, sym}
+use Rattle.std.proofs.Common.{◌≡◌, ◌∙◌, ℕ, List, [], ◌∷◌, ◌++◌, Ok, Err, Option, true, ap, append-nil, append_assoc, inl, length, refl, subst, suc, sym}
 use Rattle.std.proofs.KnownBytes.{Appends-nil, Appends-trans}
-use Rattle.hurd_terminal.specs.Faults.{AppendsFront, IsFront, IsPrintFault}
+use Rattle.hurd_terminal.specs.Faults.{AppendsFront, IsPrintFault}
 use Rattle.hurd_terminal.specs.Runs.{Adds, IsTaken}
 use Rattle.hurd_terminal.specs.declared.fault.Fault.{Fault}
 use Rattle.hurd_terminal.specs.declared.fault.Fault.TheVariants.{Write}
