@@ -1,5 +1,5 @@
 -- A list of calls on its way: what is still to be printed of it.
-use Rattle.std.specs.Prelude.{◌≡◌, ℕ, List, [], ◌∷◌, ◌+◌, Option, Some, None, length, map}
+use Rattle.std.specs.Prelude.{◌≡◌, ℕ, List, [], ◌∷◌, Option, Some, None, map}
 use Rattle.hurd_kinds.specs.Boxes.{box_meaning}
 use Rattle.hurd_lists.specs.Lists.{listed_by, reading_of}
 use Rattle.hurd_world.specs.Held.{world_of}
