@@ -50,7 +50,7 @@ module _ {S : Type 0} (f : S → Meaning) (listed : ListedCall S) (server : Opti
   made_call = ap (call_by f) is ∙ (served_by f server listed.call ∙ ap (λ (o : Option Meaning). with_server o (call_by f listed.call)) (sym made))
 
   module _ (w : World) (r : reply.Reply S) (x : World) (called : Called w listed.task.0 (call_by f d) (reply_by f r) x) (has : lacks_memory r ≡ false) where
-    right : (reply_by f r ≡ reply_of w listed.task.0 (listed_by f listed).call) × (x ≡ after_call (listed_by f listed) w)
+    pub right : (reply_by f r ≡ reply_of w listed.task.0 (listed_by f listed).call) × (x ≡ after_call (listed_by f listed) w)
     right =
         told_right f r w listed.task.0 (listed_by f listed).call x (subst (λ (c : Call). Called w listed.task.0 c (reply_by f r) x) made_call called) has
 

@@ -186,7 +186,7 @@ fn call_on<S: Server>(
 }
 
 /// The call of a name.
-fn verb_named(name: &[u8]) -> Option<Verb>
+pub fn verb_named(name: &[u8]) -> Option<Verb>
     ensures { result ≡ verb_named name.now }
 {
     match text(name) {

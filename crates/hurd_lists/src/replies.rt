@@ -38,7 +38,7 @@ fn push_spaced(text: &mut Vec<u8>, bytes: &[u8]) -> Result<(), AllocError>
 }
 
 /// The name of a kind.
-fn kind_name(kind: Kind) -> &'static str
+pub fn kind_name(kind: Kind) -> &'static str
     ensures { result.now ≡ kind_name kind }
 {
     match kind {
@@ -61,7 +61,7 @@ fn push_high_digit(text: &mut Vec<u8>, number: u32) -> Result<(), AllocError>
 }
 
 /// Prints the octal digits of a number above its last six, as far as it has them.
-fn push_high_digits(text: &mut Vec<u8>, number: u32) -> Result<(), AllocError>
+pub fn push_high_digits(text: &mut Vec<u8>, number: u32) -> Result<(), AllocError>
     ensures { OnOk result (text.new.items ≡ text.old.items ++ high_digits number) }
 {
     push_high_digit(text, number / 0o10000000000)?;
@@ -149,7 +149,7 @@ fn push_each_flag(text: &mut Vec<u8>, flags: OpenFlags) -> Result<bool, AllocErr
 }
 
 /// Prints the names of flags, joined by commas, or `-` for none.
-fn push_flags(text: &mut Vec<u8>, flags: OpenFlags) -> Result<(), AllocError>
+pub fn push_flags(text: &mut Vec<u8>, flags: OpenFlags) -> Result<(), AllocError>
     ensures { OnOk result (text.new.items ≡ text.old.items ++ flags_text flags) }
 {
     let none = push_each_flag(text, flags)?;
@@ -160,7 +160,7 @@ fn push_flags(text: &mut Vec<u8>, flags: OpenFlags) -> Result<(), AllocError>
 }
 
 /// The name of a kind of retry.
-fn retry_name(kind: RetryKind) -> &'static str
+pub fn retry_name(kind: RetryKind) -> &'static str
     ensures { result.now ≡ retry_name kind }
 {
     match kind {

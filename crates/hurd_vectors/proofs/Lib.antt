@@ -1,0 +1,12 @@
+pub mod PieceLemmas
+pub mod JsonLemmas
+pub mod FieldLemmas
+pub mod TaskLemmas
+pub mod LineLaws
+pub mod NumberLaws
+pub mod FieldLaws
+pub mod ReplyLaws
+pub mod TaskLaws
+pub mod VectorLaws
+pub mod CallLaws
+pub mod PrintedVectors
