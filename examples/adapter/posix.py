@@ -101,7 +101,8 @@ def put(path, text):
 
 
 def listed(path):
-    return b"".join(name + b"\n" for name in sorted(os.listdir(os.open(path, os.O_RDONLY | os.O_DIRECTORY))))
+    names = os.listdir(os.open(path, os.O_RDONLY | os.O_DIRECTORY))
+    return b"".join(name + b"\n" for name in sorted(map(os.fsencode, names)))
 
 
 def at(path):
@@ -152,19 +153,25 @@ def become(tree, uids, gids):
     os.setresuid(uids[0], uids[0], uids[0])
 
 
+def told(tree, ids, command, words):
+    """What a command of this user prints in the tree, or its error's name."""
+    try:
+        become(tree, *ids)
+        return done(command, words)
+    except OSError as refused:
+        return errno.errorcode[refused.errno].encode()
+
+
 def answer(tree, ids, command, words):
-    """What a command prints in the tree, or its error's name behind that, by a process of its own."""
+    """The same, by a process of its own."""
     reader, writer = os.pipe()
     child = os.fork()
     if child == 0:
-        os.close(reader)
         try:
-            become(tree, *ids)
-            out = done(command, words)
-        except OSError as refused:
-            out = errno.errorcode[refused.errno].encode()
-        os.write(writer, out)
-        os._exit(0)
+            os.close(reader)
+            os.write(writer, told(tree, ids, command, words))
+        finally:
+            os._exit(0)
     os.close(writer)
     with os.fdopen(reader, "rb") as pipe:
         out = pipe.read()
@@ -198,6 +205,8 @@ def class_of(command, words, here, there):
         return "a second name for a directory"
     if ours == "EACCES" and command in ("mkdir", "rm", "rmdir", "ln", "mv") and theirs:
         return "what may not be changed comes first"
+    if command == "ls" and b"-d" in words and not ours and not theirs and has_greatest(here):
+        return "the greatest number as an owner or a group"
     if command == "ls" and b"-d" in words and not ours and not theirs and is_told(here, there):
         return "groups, and bits of modes"
     if command == "chown" and ours is None and theirs == "EPERM":
@@ -213,6 +222,11 @@ def class_of(command, words, here, there):
     if command == "mv" and ours and theirs:
         return "which refusal of a move comes first"
     return None
+
+
+def has_greatest(line):
+    """Whether a line of `ls -d` has 4294967295 as its owner or group."""
+    return b"4294967295" in line.split(b" ")[2:4]
 
 
 def is_told(here, there):
@@ -275,9 +289,14 @@ def run(hurd, script, tree, comparison, leaves_out):
             continue
         there = answer(tree, users[words[0]], words[1], told)
         if words[1] == "ls" and b"-d" not in told:
-            here = b"\n".join(sorted(here.split(b"\n")))
+            here, there = in_order(here), in_order(there)
         if not comparison.compare(script, number, words[1], told, here, there):
             return
+
+
+def in_order(names):
+    """Lines in their order: that of names is not compared, and a name may have several."""
+    return b"\n".join(sorted(names.split(b"\n")))
 
 
 def on_a_tree(hurd, script, comparison, leaves_out):
