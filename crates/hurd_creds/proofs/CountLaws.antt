@@ -1,4 +1,4 @@
--- What is counted after a name was counted more often, or less.
+-- What is counted after a name was counted more often.
 use Rattle.std.proofs.Common.{◌≡◌, inl, inr, ℕ, ◌+◌, Bool, cond, sym, ap, ◌∙◌, arith}
 use Rattle.std.specs.Prelude.{Option, Some}
 use Rattle.indexmap.specs.IndexMap.{IndexMap, get}
@@ -10,7 +10,7 @@ use Rattle.hurd_creds.proofs.NameLaws.{same_name-itself, same_name-apart, same_o
 
 module _ {S : Type 0} (m l : IndexMap Name ℕ S) (n : Name) where
   -- what is written under the name stands there
-  pub count-written : (v : Option ℕ) → ((q : Name) → get same_name l q ≡ cond (same_name n q) v (get same_name m q)) → get same_name l n ≡ v
+  count-written : (v : Option ℕ) → ((q : Name) → get same_name l q ≡ cond (same_name n q) v (get same_name m q)) → get same_name l n ≡ v
   count-written v w = w n ∙ ap (λ (b : Bool). cond b v (get same_name m n)) (same_name-itself n)
 
   -- so many more are counted
@@ -30,16 +30,3 @@ module _ {S : Type 0} (m l : IndexMap Name ℕ S) (n : Name) where
   pub count-first : (j : ℕ) → 0 ≡ counted m.entries n → ((q : Name) → get same_name l q ≡ cond (same_name n q) (Some j) (get same_name m q))
       → (o : Name) → counted l.entries o ≡ counted m.entries o + if_so (same_name o n) j
   count-first j none w = count-added 0 j none (λ q. let e : 0 + j ≡ j = omega arith in rw e (w q))
-
-  -- so many less are, where none is written if none is left
-  pub count-less : (k j : ℕ) (v : Option ℕ) → k ≡ counted m.entries n → or_none v + j ≡ k → ((q : Name) → get same_name l q ≡ cond (same_name n q) v (get same_name m q))
-      → (o : Name) → counted l.entries o + if_so (same_name o n) j ≡ counted m.entries o
-  count-less k j v is less w o = elim (same_or_apart o n) [
-    | inl e ↦ rw (e, same_name-itself n) (ap (λ (x : ℕ). x + j) (ap or_none (count-written v w)) ∙ less ∙ is)
-    | inr apart ↦
-        let other = same_name-apart n o (λ e. apart (sym e)) in
-        rw (same_name-apart o n apart) (no_less (counted l.entries o) ∙ ap or_none (w o ∙ ap (λ (b : Bool). cond b v (get same_name m o)) other))
-  ]
-    where
-      no_less : (a : ℕ) → a + 0 ≡ a
-      no_less a = omega arith

@@ -1,17 +1,16 @@
 -- Crossing the root of a server, by what the server is.
-use Rattle.std.proofs.Common.{◌≡◌, ◌∙◌, ℕ, Bool, true, false, not, ◌&&◌, is_some, if◌then◌else◌, List, [], ◌∷◌, Option, Some, None, option_map, refl, sym, ap, ap₂}
+use Rattle.std.proofs.Common.{◌≡◌, ◌∙◌, ℕ, Bool, true, false, not, ◌&&◌, is_some, if◌then◌else◌, List, Option, Some, None, option_map, sym, ap, ap₂}
 use Rattle.std.specs.Prelude.{Result, Ok, slice_get}
-use Rattle.hurd_machine.proofs.Common.{Attrs, Crossing, EDIED, Errno, Firm, Header, Name, Node, ServerInfo, World, asks, first, header_at, info_at, node_at, on, passive_of, some_words, targets_at, targets_in, words_at, words_in}
+use Rattle.hurd_machine.proofs.Common.{Attrs, Crossing, EDIED, Errno, Firm, Header, Name, ServerInfo, World, asks, first, header_at, info_at, on, targets_at, targets_in, words_at}
 use Rattle.hurd_creds.specs.Bits.{NOLINK}
 use Rattle.hurd_trans_iface.specs.Meaning.{root_of}
-use Rattle.hurd_trans_iface.specs.Nodes.{attrs_of, has_words}
 use Rattle.hurd_trans_iface.specs.declared.root.Root.{Root}
 use Rattle.hurd_trans_iface.specs.declared.root.Crossing.TheVariants.{Link}
 use Rattle.hurd_nodes.proofs.PartLaws.{mapped-some}
 use Rattle.hurd_core.specs.PortNode.{header_with}
 use Rattle.hurd_lookup.specs.declared.request.Request.{Request}
-use Rattle.hurd_lookup.specs.Lookup.{Authority, Crossed, Place, Waiting, cross, crossing, enter, follow, hold_on, is_last}
-use Rattle.hurd_lookup.specs.Ends.{IsHere, tells_words, text_at, text_by}
+use Rattle.hurd_lookup.specs.Lookup.{Authority, Place, cross, crossing, enter, follow, hold_on, is_last}
+use Rattle.hurd_lookup.specs.Ends.{IsHere, text_at, text_by}
 use Rattle.hurd_lookup.specs.declared.here.Here.{Here}
 
 -- a node whose attributes are told is there
@@ -22,19 +21,6 @@ there w n (Some a) b some off told = (header_with (words_at w n) a, sym told)
 -- the same of one that was asked on the way
 pub here_there : (w : World) (n : Name) (x : Here) → x.node ≡ n → IsHere w x → (b : Bool) → is_some x.attrs ≡ not b → b ≡ false → (h : Header) × (header_at w n ≡ Some h)
 here_there w n x at is b some off = let h = there w x.node x.attrs b some off is.0 in (h.0, ap (header_at w) (sym at) ∙ h.1)
-
--- whether words are stored is told as it is
-waits_told : (w : World) (n : Name) (o : Option Node) (a : Option Attrs) → node_at w n ≡ o → a ≡ option_map attrs_of o
-    → option_map Waiting (passive_of o) ≡ (if tells_words a then Some (Waiting (words_in o)) else None)
-waits_told w n o a is told = rw told (by o)
-  where
-    by_words : (ws : List (List ℕ)) → option_map Waiting (some_words ws) ≡ (let c : Option Crossed = if has_words ws then Some (Waiting ws) else None in c)
-    by_words [] = refl
-    by_words (v ∷ vs) = refl
-
-    by : (p : Option Node) → option_map Waiting (passive_of p) ≡ (let c : Option Crossed = if tells_words (option_map attrs_of p) then Some (Waiting (words_in p)) else None in c)
-    by None = refl
-    by (Some x) = by_words x.header.passive
 
 module _ (w : World) (root : Name) (h : Header) (there : header_at w root ≡ Some h) (x : Root) (is : Some x ≡ option_map (λ (i : ServerInfo). root_of i.kind i.text) (info_at w root)) where
   -- the server whose root it is

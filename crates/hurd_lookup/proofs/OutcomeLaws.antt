@@ -9,7 +9,8 @@ use Rattle.hurd_trans_iface.proofs.Goods.{good}
 use Rattle.hurd_ports.specs.Steps.{named}
 use Rattle.hurd_machine.specs.World.{nodes_of}
 use Rattle.hurd_machine.specs.Touched.{OnOpen}
-use Rattle.hurd_machine.proofs.Coherence.{IsNext, CanBeNamed, be_same, header_old, named_still, next_apart}
+use Rattle.hurd_machine.proofs.Coherence.{IsNext, CanBeNamed, be_same, header_old, next_apart}
+use Rattle.hurd_machine.proofs.Naming.{named_still}
 use Rattle.hurd_machine.proofs.Shapes.{tree_shape}
 use Rattle.hurd_machine.proofs.Settle.{rests_opening}
 use Rattle.hurd_machine.proofs.Frame.{Full}

@@ -9,7 +9,8 @@ use Rattle.hurd_machine.specs.World.{nodes_of}
 use Rattle.hurd_machine.proofs.Nodes.{header_in}
 use Rattle.hurd_creds.proofs.Retained.{retain_all}
 use Rattle.hurd_machine.proofs.Left.{seat_left, left_coherent}
-use Rattle.hurd_machine.proofs.Coherence.{Comes, Newcomer, Serves, made_coherent, info_apart, seat_there, next_not, no_node, no_server, was, home_kept, header_old, named_world, named_coherent, named_still, named_below, unnoded, unaimed, home_server}
+use Rattle.hurd_machine.proofs.Coherence.{Comes, Newcomer, Serves, made_coherent, info_apart, seat_there, next_not, no_node, no_server, was, home_kept, header_old, home_server}
+use Rattle.hurd_machine.proofs.Naming.{named_world, named_coherent, named_still, named_below, unnoded, unaimed}
 
 -- a world that was given no server's name has nothing of that server
 module _ (w : World) (c : Coherent w) (s : Name) (new : Below w s → ⊥) where

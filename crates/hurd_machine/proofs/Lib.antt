@@ -10,6 +10,7 @@ pub mod Stays
 pub mod Sweeps
 pub mod Swept
 pub mod Coherence
+pub mod Naming
 pub mod Drop
 pub mod Comes
 pub mod Unseated

@@ -15,7 +15,8 @@ use Rattle.hurd_ports.specs.Steps.{named}
 use Rattle.hurd_machine.specs.World.{nodes_of}
 use Rattle.hurd_machine.proofs.Nodes.{header_in, body_in, header-with_body, body-with_body, edit_keeps, edit_reads}
 use Rattle.hurd_machine.proofs.Tasks.{edit_here}
-use Rattle.hurd_machine.proofs.Coherence.{IsNext, IsEntry, GoodNode, HasNoEntries, Proper, AllProper, home_old, no_node, no_home, entry_stands, next_not, next_apart, named_below, home_server, none_if}
+use Rattle.hurd_machine.proofs.Coherence.{IsNext, IsEntry, GoodNode, HasNoEntries, Proper, AllProper, home_old, no_node, no_home, entry_stands, next_not, next_apart, home_server, none_if}
+use Rattle.hurd_machine.proofs.Naming.{named_below}
 use Rattle.hurd_machine.proofs.Frame.{Full}
 use Rattle.hurd_machine.proofs.Confine.{SeenOrNew}
 use Rattle.hurd_machine.proofs.Permits.{entry_may, later_new, entry_added}

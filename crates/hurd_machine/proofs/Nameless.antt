@@ -13,9 +13,10 @@ use Rattle.hurd_machine.proofs.Tasks.{edit_here}
 use Rattle.hurd_machine.proofs.Holders.{NameMore, still, still_more, held_by_right}
 use Rattle.hurd_machine.proofs.Stays.{server_more, kept_more, stays_named, held_more}
 use Rattle.hurd_machine.proofs.Rights.{port_keeps, port_has}
-use Rattle.hurd_machine.proofs.Coherence.{IsNext, CanBeNamed, be_same, HasNoEntries, was, header_old, no_node, no_home, next_not, next_apart, named_below}
+use Rattle.hurd_machine.proofs.Coherence.{IsNext, CanBeNamed, be_same, HasNoEntries, was, header_old, no_node, no_home, next_not, next_apart}
+use Rattle.hurd_machine.proofs.Naming.{named_below}
 use Rattle.hurd_machine.proofs.Shapes.{tree_shape}
-use Rattle.hurd_machine.proofs.Coherence as coherence
+use Rattle.hurd_machine.proofs.Naming as naming
 use Rattle.hurd_machine.proofs.Settle.{Rests}
 use Rattle.hurd_machine.proofs.Frame.{Full}
 use Rattle.hurd_machine.proofs.Filled.{filled_made}
@@ -163,7 +164,7 @@ module _ (w : World) (t : ℕ) (x : Task) (is : task_at w t ≡ Some x) (s : Nam
       ways_yet : (m : Name) → IsAmong m (ways_of parents) → CanBeNamed made m
       ways_yet m way =
           let k = up m way in
-          (coherence.named_still w c n next 1 m k.0, be_same (nodes_of made) (nodes_of w) m (ap (λ o. shape_by (info_in w.servers o)) (home-apart w.sites n (new_site s) m (next_apart w n m next k.0))) k.1)
+          (naming.named_still w c n next 1 m k.0, be_same (nodes_of made) (nodes_of w) m (ap (λ o. shape_by (info_in w.servers o)) (home-apart w.sites n (new_site s) m (next_apart w n m next k.0))) k.1)
 
       own : Full w t T (TaskOf t)
       own = own_task w t T

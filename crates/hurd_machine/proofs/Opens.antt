@@ -9,7 +9,8 @@ use Rattle.hurd_ports.proofs.HeldLaws.{held_counted}
 use Rattle.hurd_machine.specs.World.{nodes_of}
 use Rattle.hurd_machine.specs.Touched.{OnOpen}
 use Rattle.hurd_machine.proofs.Tasks.{count_edit, edit_here}
-use Rattle.hurd_machine.proofs.Coherence.{IsNext, CanBeNamed, FineRight, KeepsEnds, AllProper, named_below, named_still, settled_held, was_settled}
+use Rattle.hurd_machine.proofs.Coherence.{IsNext, CanBeNamed, FineRight, KeepsEnds, AllProper, settled_held, was_settled}
+use Rattle.hurd_machine.proofs.Naming.{named_below, named_still}
 use Rattle.hurd_machine.proofs.Rights.{port_counts, port_table, right_under, without_counts, without_rights, without_table}
 use Rattle.hurd_machine.proofs.Frame.{Covers, Within, AllWithin, Full, not_on, not_named}
 use Rattle.hurd_machine.proofs.Several.{AllMay}

@@ -13,7 +13,8 @@ use Rattle.hurd_machine.specs.Touched.{Goes}
 use Rattle.hurd_machine.proofs.Nodes.{attr_same, header_in, body_in, empty_in, edit_alike, insert_alike}
 use Rattle.hurd_creds.proofs.Retained.{get-retained}
 use Rattle.hurd_machine.proofs.Tasks.{count_named, count_alike, edit_same}
-use Rattle.hurd_machine.proofs.Coherence.{IsNext, Comes, none_if, unnoded}
+use Rattle.hurd_machine.proofs.Coherence.{IsNext, Comes, none_if}
+use Rattle.hurd_machine.proofs.Naming.{unnoded}
 use Rattle.hurd_machine.proofs.Comes.{come_world, info_same, root_new, come_home, no_root, come_new, none_served}
 use Rattle.hurd_machine.proofs.Ends.{ends_by, ends_fresh, ends_gone, ends_same}
 use Rattle.hurd_machine.proofs.Totals.{total_homes, total_made, total_unmade, total_left, total_empty, own_total}
