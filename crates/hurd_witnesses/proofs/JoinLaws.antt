@@ -1,0 +1,6 @@
+-- What is added piece by piece.
+use Rattle.std.proofs.Common.{◌≡◌, ◌∙◌, List, ℕ, ◌++◌, append_assoc}
+
+-- three pieces more
+pub three_more : (old a b c one two all : List ℕ) → one ≡ old ++ a → two ≡ one ++ b → all ≡ two ++ c → all ≡ old ++ (a ++ (b ++ c))
+three_more old a b c one two all first second third = rw (third, second, first) (append_assoc (old ++ a) b c ∙ append_assoc old a (b ++ c))

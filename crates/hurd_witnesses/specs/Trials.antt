@@ -1,0 +1,84 @@
+-- Which commands are tried, to find out how somebody could be told what a line says that some learn.
+use Rattle.std.specs.Prelude.{ℕ, ◌+◌, ◌-◌, ◌*◌, ◌==◌, ◌&&◌, Bool, false, List, [], ◌∷◌, ◌++◌, codes, get_or, if◌then◌else◌, map, nat_le, nat_lt, take}
+use Rattle.std.specs.List.{slice_split}
+use Rattle.hurd_witnesses.specs.declared.places.Stand.{Stand}
+use Rattle.hurd_witnesses.specs.declared.places.Stand.TheVariants.{Plain, Backslash, First, Second}
+
+-- PLACES: a line says where something is, as `  alice learns: /home/bob (port 3): mode 755 -> 700`
+
+-- a part of a line between bytes of one kind, counted from 0
+abbrev pub part_at : ℕ → ℕ → List ℕ → List ℕ
+part_at c i line = get_or (slice_split (λ b. b == c) line) i []
+
+-- what stands in front of the first colon of a line that says what some learn who are called so
+abbrev pub head_of : List ℕ → ℕ → List ℕ
+head_of who users = codes "  " ++ (who ++ (if nat_lt 1 users then codes " learn" else codes " learns"))
+
+-- where something is that a line tells: between its first colons, up to a space or a bracket
+abbrev pub place_of : List ℕ → List ℕ
+place_of line = part_at 40 0 (part_at 32 1 (part_at 58 1 line))
+
+-- what a digit of base 16 counts
+abbrev pub digit_of : ℕ → ℕ
+digit_of b = if nat_lt b 58 then b - 48 else b - 87
+
+-- the byte of such a number, where a script's word may have it as it is; else as it was spelled
+abbrev pub by_value : ℕ → ℕ → ℕ → List ℕ
+by_value v high low = if nat_le 33 v && nat_le v 126 then v ∷ [] else 92 ∷ 120 ∷ high ∷ low ∷ []
+
+abbrev pub by_digits : ℕ → ℕ → List ℕ
+by_digits high low = by_value (digit_of high * 16 + digit_of low) high low
+
+-- a place as a script writes it: a byte that is spelled by its number, as `\x2c`, is written as it is
+abbrev pub scripted_from : Stand → List ℕ → List ℕ
+scripted_from stand [] = []
+scripted_from Plain (b ∷ bs) = if b == 92 then scripted_from Backslash bs else b ∷ scripted_from Plain bs
+scripted_from Backslash (b ∷ bs) = if b == 120 then scripted_from First bs else 92 ∷ b ∷ scripted_from Plain bs
+scripted_from First (b ∷ bs) = scripted_from (Second b) bs
+scripted_from (Second high) (b ∷ bs) = by_digits high b ++ scripted_from Plain bs
+
+abbrev pub scripted : List ℕ → List ℕ
+scripted place = scripted_from Plain place
+
+-- whether a place is a path
+abbrev pub is_path : List ℕ → Bool
+is_path [] = false
+is_path (b ∷ bs) = b == 47
+
+-- COMMANDS
+
+-- a command with a word in it
+abbrev pub command : List ℕ → List ℕ → List ℕ → List ℕ
+command before word behind = before ++ (word ++ behind)
+
+-- what can be asked of a node by its path
+abbrev pub commands_on : List ℕ → List (List ℕ)
+commands_on path =
+    command (codes "cat ") path []
+    ∷ command (codes "ls ") path []
+    ∷ command (codes "ls -d ") path []
+    ∷ command (codes "showtrans ") path []
+    ∷ command (codes "fsysopts ") path []
+    ∷ command (codes "put ") path (codes " x")
+    ∷ command (codes "rmdir ") path []
+    ∷ command (codes "rm ") path []
+    ∷ command (codes "settrans -g ") path []
+    ∷ command (codes "chmod 644 ") path []
+    ∷ []
+
+-- a line of a script: a user's command
+abbrev pub line_by : List ℕ → List ℕ → List ℕ
+line_by command user = user ++ 32 ∷ command
+
+-- each command by each of these users
+abbrev pub lines_by : List (List ℕ) → List (List ℕ) → List (List ℕ)
+lines_by users [] = []
+lines_by users (c ∷ cs) = map (line_by c) users ++ lines_by users cs
+
+-- the first 16 of them are tried; none where the place is no path
+abbrev pub trials_on : List (List ℕ) → List ℕ → List (List ℕ)
+trials_on users path = if is_path path then take 16 (lines_by users (commands_on path)) else []
+
+-- what is tried of what a line tells
+abbrev pub trials_of : List (List ℕ) → List ℕ → List (List ℕ)
+trials_of users line = trials_on users (scripted (place_of line))
