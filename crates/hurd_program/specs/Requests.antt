@@ -1,16 +1,23 @@
 -- The program that was asked for.
-use Rattle.std.specs.Prelude.{string_bytes, option_map}
+use Rattle.std.specs.Prelude.{ℕ, Option, Some, None, Result, Err, string_bytes, option_map}
 use Rattle.hurd_calls.specs.Lists.{lists}
 use Rattle.hurd_dialogue.specs.Sorts.{Sort, running}
 use Rattle.hurd_drawing.specs.Drawings.{drawing}
 use Rattle.hurd_run.specs.Scripts.{scripts}
 use Rattle.hurd_teaching.specs.Programs.{learning, seeing}
 use Rattle.hurd_terminal.specs.Runs.{Program}
+use Rattle.hurd_terminal.specs.declared.fault.Fault.{Fault}
+use Rattle.hurd_terminal.specs.declared.fault.Fault.TheVariants.{Bad}
 use Rattle.hurd_program.specs.declared.request.Request.{Request}
 use Rattle.hurd_program.specs.declared.request.TextSort.{TextSort}
 use Rattle.hurd_program.specs.declared.request.TextSort.TheVariants.{Script, Calls}
 use Rattle.hurd_program.specs.declared.request.Verb.{Verb}
 use Rattle.hurd_program.specs.declared.request.Verb.TheVariants.{Run, Learns, Sees, Draws}
+
+-- the line at which a text is bad, where a run of it ended so
+abbrev pub bad_line : Result (Unit {0}) Fault → Option ℕ
+bad_line (Err (Bad line)) = Some line
+bad_line _ = None
 
 -- scripts or lists of calls
 abbrev pub sort_of : TextSort → Sort

@@ -9,9 +9,11 @@ mod performing;
 mod request;
 mod sampling;
 mod vectors;
+mod witnesses;
 
 pub use pairing::perform_pair;
 pub use performing::perform;
 pub use request::{Request, TextSort, Verb};
 pub use sampling::{SampleTrouble, perform_sample};
 pub use vectors::perform_vectors;
+pub use witnesses::perform_witnesses;
