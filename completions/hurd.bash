@@ -5,7 +5,8 @@
 _hurd_takes() {
     case $1 in
         run) operands=(FILE) options=(--calls --json -h --help) ;;
-        learns | see) operands=(WHO FILE) options=(--calls -h --help) ;;
+        learns) operands=(WHO FILE) options=(--calls --how -h --help) ;;
+        see) operands=(WHO FILE) options=(--calls -h --help) ;;
         draw) operands=(FILE) options=(--as --calls -h --help) ;;
         tell) operands=(WHO FILE FILE) options=(-h --help) ;;
         sample) operands=() options=(--calls -h --help) ;;

@@ -7,7 +7,7 @@ const ABOUT: &str =
     "Runs scripts of several users' commands over a file tree in memory in which strangers serve the nodes, and says what users learn by them.";
 
 const AFTER: &str =
-    "FILE is a script, or a list of calls where its name ends with .calls; - is standard input.\nWHO is a user of the script or the number of a task of the list, or several of them between commas.\nONE and TWO are scripts with the same users, in which WHO give the same commands.\n\nExit status: 0 all went well; 1 a bad text, somebody is named who isn't in it, or ONE and TWO are no such pair; 2 trouble; 3 WHO are told otherwise.\nWhat is wrong is said on standard error, as hurd: FILE:LINE: bad script: REASON.\n\nExamples:\n  hurd run examples/welcome.hurd\n  hurd learns alice examples/learned-secret.hurd\n  hurd see alice examples/learned-secret.hurd\n  hurd draw --as alice examples/learned-secret.hurd | dot -Tsvg > picture.svg\n  hurd tell alice examples/unseen-one.hurd examples/unseen-two.hurd\n  hurd run --json examples/sent-port.calls\n  hurd sample 7 | hurd learns alice -";
+    "FILE is a script, or a list of calls where its name ends with .calls; - is standard input.\nWHO is a user of the script or the number of a task of the list, or several of them between commas.\nONE and TWO are scripts with the same users, in which WHO give the same commands.\n\nExit status: 0 all went well; 1 a bad text, somebody is named who isn't in it, or ONE and TWO are no such pair; 2 trouble; 3 WHO are told otherwise.\nWhat is wrong is said on standard error, as hurd: FILE:LINE: bad script: REASON.\n\nExamples:\n  hurd run examples/welcome.hurd\n  hurd learns alice examples/learned-secret.hurd\n  hurd learns --how alice examples/learned-secret.hurd\n  hurd see alice examples/learned-secret.hurd\n  hurd draw --as alice examples/learned-secret.hurd | dot -Tsvg > picture.svg\n  hurd tell alice examples/unseen-one.hurd examples/unseen-two.hurd\n  hurd run --json examples/sent-port.calls\n  hurd sample 7 | hurd learns alice -";
 
 const FILE: &str = "a script, a list of calls (NAME.calls), or - for standard input";
 
@@ -47,6 +47,24 @@ fn run<'a>(alloc: Global) -> Result<Command<'a>, AllocError> {
     .arg(word(alloc, "FILE", FILE))
 }
 
+/// The verb for what is learned. An error is want of memory.
+fn learns<'a>(alloc: Global) -> Result<Command<'a>, AllocError> {
+    let how = Arg::new(alloc, "how")
+        .long("how")
+        .action(ArgAction::SetTrue)
+        .help(
+            "Of a script: behind each line a command of theirs that would tell it, with its answers before and after",
+        );
+    verb(
+        alloc,
+        "learns",
+        "Prints that, and behind each command of others what WHO learn by it",
+    )?
+    .arg(how)?
+    .arg(word(alloc, "WHO", WHO))?
+    .arg(word(alloc, "FILE", FILE))
+}
+
 /// The verb for a random text. An error is want of memory.
 fn sample<'a>(alloc: Global) -> Result<Command<'a>, AllocError> {
     let calls = Arg::new(alloc, "calls")
@@ -76,13 +94,6 @@ fn tell<'a>(alloc: Global) -> Result<Command<'a>, AllocError> {
 
 /// The whole command line. An error is want of memory.
 pub fn hurd<'a>(alloc: Global) -> Result<Command<'a>, AllocError> {
-    let learns = verb(
-        alloc,
-        "learns",
-        "Prints that, and behind each command of others what WHO learn by it",
-    )?
-    .arg(word(alloc, "WHO", WHO))?
-    .arg(word(alloc, "FILE", FILE))?;
     let see = verb(alloc, "see", "Prints all that WHO see at the end")?
         .arg(word(alloc, "WHO", WHO))?
         .arg(word(alloc, "FILE", FILE))?;
@@ -106,7 +117,7 @@ pub fn hurd<'a>(alloc: Global) -> Result<Command<'a>, AllocError> {
         .subcommand_required(true)
         .arg_required_else_help(true)
         .subcommand(run(alloc)?)?
-        .subcommand(learns)?
+        .subcommand(learns(alloc)?)?
         .subcommand(see)?
         .subcommand(draw)?
         .subcommand(tell(alloc)?)?

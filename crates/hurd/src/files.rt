@@ -1,7 +1,9 @@
 //! The files that are asked for.
 use crate::shown::shown;
-use crate::words::{Asked, TROUBLE, trouble};
-use hurd_program::{Request, TextSort, perform, perform_pair, perform_sample, perform_vectors};
+use crate::words::{Asked, TROUBLE, Wanted, trouble};
+use hurd_program::{
+    TextSort, perform, perform_pair, perform_sample, perform_vectors, perform_witnesses,
+};
 use hurd_terminal::{Input, Output};
 use std::alloc::{AllocError, Global};
 use std::fs::File;
@@ -22,26 +24,21 @@ fn name_of(alloc: Global, file: &str) -> Result<Vec<u8>, AllocError> {
 }
 
 /// Does what is asked with what a reader gives; answers the exit status.
-fn serve_from<R: Read + Drop>(rt: &HostRuntime, request: &Request, name: &[u8], reader: R) -> u8 {
+fn serve_from<R: Read + Drop>(rt: &HostRuntime, wanted: &Wanted, name: &[u8], reader: R) -> u8 {
+    let alloc = rt.alloc();
     let mut input = Input::new(reader);
     let mut output = Output::new(io::writer(rt));
     let mut errors = Output::new(rt.stderr());
-    perform(
-        rt.alloc(),
-        request,
-        name,
-        &mut input,
-        &mut output,
-        &mut errors,
-    )
-}
-
-/// Prints as vectors the list that a reader gives; answers the exit status.
-fn tell_vectors<R: Read + Drop>(rt: &HostRuntime, name: &[u8], reader: R) -> u8 {
-    let mut input = Input::new(reader);
-    let mut output = Output::new(io::writer(rt));
-    let mut errors = Output::new(rt.stderr());
-    perform_vectors(rt.alloc(), name, &mut input, &mut output, &mut errors)
+    match wanted {
+        Wanted::Request(request) => {
+            perform(alloc, request, name, &mut input, &mut output, &mut errors)
+        }
+        Wanted::Vectors => perform_vectors(alloc, name, &mut input, &mut output, &mut errors),
+        Wanted::Witnesses { who } => {
+            let who = who.as_str();
+            perform_witnesses(alloc, who, name, &mut input, &mut output, &mut errors)
+        }
+    }
 }
 
 /// Prints a random text; answers the exit status.
@@ -104,25 +101,13 @@ fn await_text(rt: &HostRuntime) {
 }
 
 /// Does what is asked of one file; answers the exit status.
-fn serve_one(rt: &HostRuntime, request: &Request, file: &str, name: &[u8]) -> u8 {
+fn serve_one(rt: &HostRuntime, wanted: &Wanted, file: &str, name: &[u8]) -> u8 {
     if file == "-" {
         await_text(rt);
-        return serve_from(rt, request, name, rt.reader());
+        return serve_from(rt, wanted, name, rt.reader());
     }
     match File::open(rt, file) {
-        Ok(opened) => serve_from(rt, request, name, opened),
-        Err(error) => unopened(rt, name, error.kind()),
-    }
-}
-
-/// Prints the list of a file as vectors; answers the exit status.
-fn vectors_of(rt: &HostRuntime, file: &str, name: &[u8]) -> u8 {
-    if file == "-" {
-        await_text(rt);
-        return tell_vectors(rt, name, rt.reader());
-    }
-    match File::open(rt, file) {
-        Ok(opened) => tell_vectors(rt, name, opened),
+        Ok(opened) => serve_from(rt, wanted, name, opened),
         Err(error) => unopened(rt, name, error.kind()),
     }
 }
@@ -163,32 +148,22 @@ fn tell_files(rt: &HostRuntime, who: &str, names: (&[u8], &[u8]), one: &str, two
     tell_second(rt, who, names, rt.reader(), two)
 }
 
+/// Compares the scripts that are asked for; answers the exit status.
+fn tell_pair(rt: &HostRuntime, who: &str, one: &str, two: &str) -> u8 {
+    let (Ok(first), Ok(second)) = (name_of(rt.alloc(), one), name_of(rt.alloc(), two)) else {
+        return trouble(rt, b"hurd: out of memory\n");
+    };
+    tell_files(rt, who, (first.as_slice(), second.as_slice()), one, two)
+}
+
 /// Does what is asked of the files; answers the exit status.
 pub fn serve(rt: &HostRuntime, asked: &Asked) -> u8 {
     match asked {
-        Asked::One { request, file } => match name_of(rt.alloc(), file.as_str()) {
-            Ok(name) => serve_one(rt, request, file.as_str(), name.as_slice()),
+        Asked::Text { wanted, file } => match name_of(rt.alloc(), file.as_str()) {
+            Ok(name) => serve_one(rt, wanted, file.as_str(), name.as_slice()),
             Err(_) => trouble(rt, b"hurd: out of memory\n"),
         },
-        Asked::Vectors { file } => match name_of(rt.alloc(), file.as_str()) {
-            Ok(name) => vectors_of(rt, file.as_str(), name.as_slice()),
-            Err(_) => trouble(rt, b"hurd: out of memory\n"),
-        },
+        Asked::Pair { who, one, two } => tell_pair(rt, who.as_str(), one.as_str(), two.as_str()),
         Asked::Sample { sort, seed, count } => give_sample(rt, *sort, *seed, *count),
-        Asked::Pair { who, one, two } => {
-            let (Ok(first), Ok(second)) = (
-                name_of(rt.alloc(), one.as_str()),
-                name_of(rt.alloc(), two.as_str()),
-            ) else {
-                return trouble(rt, b"hurd: out of memory\n");
-            };
-            tell_files(
-                rt,
-                who.as_str(),
-                (first.as_slice(), second.as_slice()),
-                one.as_str(),
-                two.as_str(),
-            )
-        }
     }
 }

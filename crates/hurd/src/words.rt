@@ -11,15 +11,21 @@ use std::{env, io};
 /// The exit status of trouble.
 pub const TROUBLE: u8 = 2;
 
+/// What is asked of one text.
+#[derive(Drop)]
+pub enum Wanted {
+    Request(Request),
+    /// A list as vectors.
+    Vectors,
+    /// What these learn of a script, with how they could be told it.
+    Witnesses { who: String },
+}
+
 /// What is asked, and of which files; `-` is standard input.
 #[derive(Drop)]
 pub enum Asked {
-    One {
-        request: Request,
-        file: String,
-    },
-    /// A list as vectors.
-    Vectors {
+    Text {
+        wanted: Wanted,
         file: String,
     },
     /// Whether these are told the same by two scripts.
@@ -41,6 +47,8 @@ pub enum Asked {
 pub enum Unasked {
     /// Vectors are asked for, and not of a list.
     NoList,
+    /// Witnesses are asked for, and of a list.
+    NoScript,
     /// A seed is no number that one can be.
     Seed,
     /// A count is none.
@@ -61,6 +69,8 @@ impl Unasked {
             Unasked::NoList => {
                 b"hurd: vectors are made of a list of calls: its name ends with .calls, or --calls says that it is one\n"
             }
+            Unasked::NoScript =>
+                b"hurd: --how is for scripts: no command is tried in a list of calls\n",
             Unasked::Seed => b"hurd: SEED is a number, 0 to 18446744073709551615\n",
             Unasked::Count => b"hurd: COUNT is a number, 0 to 18446744073709551615\n",
             Unasked::Memory => b"hurd: out of memory\n",
@@ -94,6 +104,7 @@ fn asked_by(alloc: Global, verb: &str, matches: &ArgMatches<'_>) -> Result<Asked
         }),
         "sample" => sample_of(matches),
         "run" if matches.get_flag("json") => vectors_of(alloc, matches),
+        "learns" if matches.get_flag("how") => witnesses_of(alloc, matches),
         _ => Ok(request_of(alloc, verb, matches)?),
     }
 }
@@ -117,17 +128,37 @@ fn sample_of(matches: &ArgMatches<'_>) -> Result<Asked, Unasked> {
     Ok(Asked::Sample { sort, seed, count })
 }
 
-/// The number that a word says, if it is one.
+/// The number that a word of digits says, if it is one.
 fn number_of(word: Option<&str>) -> Option<u64> {
-    word?.parse().ok()
+    let word = word?;
+    match word.as_bytes().first() {
+        Some(b'+') => None,
+        _ => word.parse().ok(),
+    }
 }
 
 /// A list that is asked for as vectors.
 fn vectors_of(alloc: Global, matches: &ArgMatches<'_>) -> Result<Asked, Unasked> {
     let file = text_of(alloc, matches, "FILE")?;
     match sort_of(matches, &file) {
-        TextSort::Calls => Ok(Asked::Vectors { file }),
+        TextSort::Calls => Ok(Asked::Text {
+            wanted: Wanted::Vectors,
+            file,
+        }),
         TextSort::Script => Err(Unasked::NoList),
+    }
+}
+
+/// A script that is asked for with witnesses.
+fn witnesses_of(alloc: Global, matches: &ArgMatches<'_>) -> Result<Asked, Unasked> {
+    let who = text_of(alloc, matches, "WHO")?;
+    let file = text_of(alloc, matches, "FILE")?;
+    match sort_of(matches, &file) {
+        TextSort::Script => Ok(Asked::Text {
+            wanted: Wanted::Witnesses { who },
+            file,
+        }),
+        TextSort::Calls => Err(Unasked::NoScript),
     }
 }
 
@@ -156,8 +187,8 @@ fn request_of(alloc: Global, verb: &str, matches: &ArgMatches<'_>) -> Result<Ask
         },
         _ => Verb::Run,
     };
-    let request = Request { sort, verb };
-    Ok(Asked::One { request, file })
+    let wanted = Wanted::Request(Request { sort, verb });
+    Ok(Asked::Text { wanted, file })
 }
 
 /// Says a line on standard error; answers the exit status of trouble.
