@@ -5,3 +5,4 @@ pub mod LineLaws
 pub mod FindingLaws
 pub mod WitnessLaws
 pub mod OneFinding
+pub mod ChildLaws

@@ -1,5 +1,5 @@
 -- Of a text one text is printed with how some could be told each thing.
-use Rattle.std.proofs.Common.{◌≡◌, ◌∙◌, ℕ, ◌+◌, ◌==◌, List, [], ◌∷◌, if◌then◌else◌, length, refl, sym, subst}
+use Rattle.std.proofs.Common.{◌≡◌, ◌∙◌, ℕ, ◌+◌, ◌==◌, List, [], ◌∷◌, if◌then◌else◌, length, refl, sym, subst, ap}
 use Rattle.hurd_dialogue.specs.Sorts.{Sort}
 use Rattle.hurd_teaching.specs.Programs.{PrintsOneText}
 use Rattle.hurd_teaching.proofs.OneText.{one_text_is_printed}
@@ -7,7 +7,8 @@ use Rattle.hurd_terminal.specs.Faults.{IsFront}
 use Rattle.hurd_words.specs.Lines.{lines_of}
 use Rattle.hurd_witnesses.specs.Answers.{unended}
 use Rattle.hurd_witnesses.specs.Finding.{Found, finding}
-use Rattle.hurd_witnesses.specs.Witnesses.{IsWitnessed, how_of, if_learned, witnessed}
+use Rattle.hurd_witnesses.specs.Trials.{trials_of}
+use Rattle.hurd_witnesses.specs.Witnesses.{how_of, if_learned, IsWitnessed, said_by, witnessed}
 use Rattle.hurd_witnesses.specs.declared.hunt.Hunt.{Hunt}
 
 -- what is said goes by what is listed, however it is kept
@@ -18,8 +19,12 @@ record SameHunt (h g : Hunt) : Type 0 where
   commands : h.commands.items ≡ g.commands.items
 
 module _ (sort : Sort) (h g : Hunt) (same : SameHunt h g) where
+  same_said : (made : ℕ) (trials : List (List ℕ)) → said_by sort h made trials ≡ said_by sort g made trials
+  same_said made trials = rw (same.front, same.commands) refl
+
   same_how : (made : ℕ) (line : List ℕ) → how_of sort h made line ≡ how_of sort g made line
-  same_how made line = rw (same.users, same.front, same.commands) refl
+  same_how made line =
+      ap (λ (users : List (List ℕ)). said_by sort h made (trials_of users line)) same.users ∙ same_said made (trials_of g.users.items line)
 
   same_line : (made : ℕ) (line : List ℕ) → if_learned sort h made line ≡ if_learned sort g made line
   same_line made line = rw (same.head, same_how made line) refl

@@ -8,6 +8,7 @@
 #![tactic(auto)]
 
 mod answers;
+mod children;
 mod finding;
 mod hunt;
 mod laws;

@@ -1,7 +1,8 @@
 //! Where something is that a line of what is learned tells.
 ghost use Rattle.std.specs.Prelude.{◌≡◌, ◌++◌, ◌∷◌, ℕ, IfOk, List, OnOk};
-ghost use Rattle.hurd_witnesses.specs.Trials.{by_digits, by_value, digit_of, is_path, part_at, place_of, scripted, scripted_from};
+ghost use Rattle.hurd_witnesses.specs.Trials.{by_digits, by_value, child_of, digit_of, is_path, part_at, place_of, scripted, scripted_from};
 
+use crate::children::child_of;
 use hurd_creds::Bytes;
 use hurd_words::words::pieces;
 use std::alloc::{AllocError, Global};
@@ -120,4 +121,12 @@ pub(crate) fn word_in(alloc: Global, line: &[u8]) -> Result<Bytes, AllocError>
 {
     let place = place_of(alloc, line)?;
     Ok(Bytes::new(scripted(alloc, place)?))
+}
+
+/// The name of the first entry that a line tells is new or gone, as a script writes it. An error is want of memory.
+pub(crate) fn child_in(alloc: Global, line: &[u8]) -> Result<Bytes, AllocError>
+    ensures { IfOk result (λ name. name ≡ scripted (child_of line.now)) }
+{
+    let name = child_of(alloc, line)?;
+    Ok(Bytes::new(scripted(alloc, name.as_slice())?))
 }

@@ -1,8 +1,8 @@
 //! The commands that are tried.
 ghost use Rattle.std.specs.Prelude.{◌≡◌, ◌++◌, ◌∷◌, [], IfOk, OnOk, map};
-ghost use Rattle.hurd_witnesses.specs.Trials.{command, commands_on, line_by, lines_by, trials_of, trials_on};
+ghost use Rattle.hurd_witnesses.specs.Trials.{acts_on, child_commands, child_path, command, commands_on, line_by, lines_by, looks_at, trials_of, trials_on};
 
-use crate::places::{is_path, word_in};
+use crate::places::{child_in, is_path, word_in};
 use hurd_creds::Bytes;
 use std::alloc::{AllocError, Global};
 
@@ -26,21 +26,65 @@ fn push_command(
     Ok(())
 }
 
-/// What can be asked of a node by its path. An error is want of memory.
-fn commands_on(alloc: Global, path: &[u8]) -> Result<Vec<Bytes>, AllocError>
-    ensures { IfOk result (λ commands. commands.items ≡ commands_on path.now) }
+/// The path of an entry of a directory. An error is want of memory.
+fn child_path(alloc: Global, path: &[u8], name: &[u8]) -> Result<Vec<u8>, AllocError>
+    ensures { IfOk result (λ text. text.items ≡ child_path path.now name.now) }
+{
+    let mut text = Vec::from_slice(alloc, path)?;
+    if path.len() != 1 {
+        text.push(b'/')?;
+    }
+    text.extend_from_slice(name)?;
+    Ok(text)
+}
+
+/// Adds what can be asked of an entry of a node, where there is a name.
+fn push_child_commands(
+    alloc: Global,
+    commands: &mut Vec<Bytes>,
+    path: &[u8],
+    name: &[u8],
+) -> Result<(), AllocError>
+    ensures { OnOk result (commands.new.items ≡ commands.old.items ++ child_commands path.now name.now) }
+{
+    if name.is_empty() {
+        return Ok(());
+    }
+    let child = child_path(alloc, path, name)?;
+    push_command(alloc, commands, b"ls -d ", child.as_slice(), b"")
+}
+
+/// Adds what shows a node.
+fn push_looks(alloc: Global, commands: &mut Vec<Bytes>, path: &[u8]) -> Result<(), AllocError>
+    ensures { OnOk result (commands.new.items ≡ commands.old.items ++ looks_at path.now) }
+{
+    push_command(alloc, commands, b"cat ", path, b"")?;
+    push_command(alloc, commands, b"ls ", path, b"")?;
+    push_command(alloc, commands, b"ls -d ", path, b"")
+}
+
+/// Adds what else can be asked of it.
+fn push_acts(alloc: Global, commands: &mut Vec<Bytes>, path: &[u8]) -> Result<(), AllocError>
+    ensures { OnOk result (commands.new.items ≡ commands.old.items ++ acts_on path.now) }
+{
+    push_command(alloc, commands, b"showtrans ", path, b"")?;
+    push_command(alloc, commands, b"fsysopts ", path, b"")?;
+    push_command(alloc, commands, b"put ", path, b" x")?;
+    push_command(alloc, commands, b"rmdir ", path, b"")?;
+    push_command(alloc, commands, b"rm ", path, b"")?;
+    push_command(alloc, commands, b"settrans -g ", path, b"")?;
+    push_command(alloc, commands, b"chmod 644 ", path, b"")?;
+    Ok(())
+}
+
+/// What can be asked of a node by its path, and of an entry of it. An error is want of memory.
+fn commands_on(alloc: Global, path: &[u8], name: &[u8]) -> Result<Vec<Bytes>, AllocError>
+    ensures { IfOk result (λ commands. commands.items ≡ commands_on path.now name.now) }
 {
     let mut commands = Vec::new(alloc);
-    push_command(alloc, &mut commands, b"cat ", path, b"")?;
-    push_command(alloc, &mut commands, b"ls ", path, b"")?;
-    push_command(alloc, &mut commands, b"ls -d ", path, b"")?;
-    push_command(alloc, &mut commands, b"showtrans ", path, b"")?;
-    push_command(alloc, &mut commands, b"fsysopts ", path, b"")?;
-    push_command(alloc, &mut commands, b"put ", path, b" x")?;
-    push_command(alloc, &mut commands, b"rmdir ", path, b"")?;
-    push_command(alloc, &mut commands, b"rm ", path, b"")?;
-    push_command(alloc, &mut commands, b"settrans -g ", path, b"")?;
-    push_command(alloc, &mut commands, b"chmod 644 ", path, b"")?;
+    push_looks(alloc, &mut commands, path)?;
+    push_child_commands(alloc, &mut commands, path, name)?;
+    push_acts(alloc, &mut commands, path)?;
     Ok(commands)
 }
 
@@ -81,13 +125,18 @@ fn lines_by(alloc: Global, users: &[Bytes], commands: &[Bytes]) -> Result<Vec<By
 }
 
 /// The first 16 of them; none where the place is no path. An error is want of memory.
-fn trials_on(alloc: Global, users: &[Bytes], path: &[u8]) -> Result<Vec<Bytes>, AllocError>
-    ensures { IfOk result (λ trials. trials.items ≡ trials_on users.now path.now) }
+fn trials_on(
+    alloc: Global,
+    users: &[Bytes],
+    path: &[u8],
+    name: &[u8],
+) -> Result<Vec<Bytes>, AllocError>
+    ensures { IfOk result (λ trials. trials.items ≡ trials_on users.now path.now name.now) }
 {
     if !is_path(path) {
         return Ok(Vec::new(alloc));
     }
-    let commands = commands_on(alloc, path)?;
+    let commands = commands_on(alloc, path, name)?;
     let mut trials = lines_by(alloc, users, commands.as_slice())?;
     trials.truncate(MOST_TRIALS);
     Ok(trials)
@@ -101,6 +150,7 @@ pub(crate) fn trials_of(
 ) -> Result<Vec<Bytes>, AllocError>
     ensures { IfOk result (λ trials. trials.items ≡ trials_of users.now line.now) }
 {
-    let word = word_in(alloc, line)?;
-    trials_on(alloc, users, word.as_slice())
+    let path = word_in(alloc, line)?;
+    let name = child_in(alloc, line)?;
+    trials_on(alloc, users, path.as_slice(), name.as_slice())
 }
