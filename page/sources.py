@@ -16,25 +16,25 @@ MADE = {"out", "__pycache__", "must-fail"}
 
 
 def below(name):
-    """This crate and all that it stands on in this repository, by crates.txt."""
+    """This crate and all that it stands on in this repository, by crates.txt: each with what it stands on."""
     lines = {}
     with open(os.path.join(TOP, "crates.txt"), encoding="utf-8") as file:
         for line in file:
             if ":" in line.split("#")[0]:
                 crate, uses = line.split("#")[0].split(":")
                 lines[crate.strip()] = uses.split()
-    found, rest = set(), [name]
+    found, rest = {}, [name]
     while rest:
         name = rest.pop()
         if name in lines and name not in found:
-            found.add(name)
+            found[name] = lines[name]
             rest.extend(lines[name])
     return found
 
 
 def files():
     folders = [os.path.join("crates", name) for name in below(PROGRAM)] + ["examples", "page"]
-    found = ["crates.txt"]
+    found = []
     for folder in folders:
         for at, inner, names in os.walk(os.path.join(TOP, folder)):
             inner[:] = [name for name in inner if name not in MADE]
@@ -44,6 +44,8 @@ def files():
 
 def total():
     sums = hashlib.sha256()
+    for crate, uses in sorted(below(PROGRAM).items()):
+        sums.update(" ".join([crate + ":", *uses, "\n"]).encode())
     for name in files():
         with open(os.path.join(TOP, name), "rb") as file:
             sums.update(name.encode() + b"\0" + hashlib.sha256(file.read()).digest())

@@ -1,0 +1,5 @@
+pub mod PartLaws
+pub mod MadeLaws
+pub mod LackLaws
+pub mod ReadLaws
+pub mod TextLaws

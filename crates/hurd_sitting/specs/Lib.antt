@@ -1,0 +1,3 @@
+pub mod Sittings
+pub mod Kept
+pub mod Laws

@@ -1,0 +1,16 @@
+//! A world that is kept: its calls are made a text at a time.
+//!
+//! `Sitting::begun` reads a list of calls, begins the world of its tasks over an empty tree in memory, and makes its calls. `Sitting::make` makes the calls of
+//! a further text, which has no tasks, and `Sitting::told` is what the last text told: each call's line and reply, as `hurd run --calls` prints it.
+//! A call of a task that isn't there is no fault: its reply is ESRCH.
+//!
+//! Texts that are made one after another tell what one list of their calls tells, and leave the same world: `calls_are_one` says it of calls, `texts_are_one`
+//! of the bytes of a list and of a text behind it.
+#![tactic(auto)]
+
+mod laws;
+mod making;
+mod sitting;
+
+pub use laws::{calls_are_one, texts_are_one};
+pub use sitting::Sitting;
