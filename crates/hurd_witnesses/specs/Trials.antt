@@ -101,6 +101,7 @@ acts_on path =
     ∷ command (codes "put ") path (codes " x")
     ∷ command (codes "rmdir ") path []
     ∷ command (codes "rm ") path []
+    ∷ command (codes "settrans ") path []
     ∷ command (codes "settrans -g ") path []
     ∷ command (codes "chmod 644 ") path []
     ∷ []

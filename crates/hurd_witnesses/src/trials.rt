@@ -72,6 +72,7 @@ fn push_acts(alloc: Global, commands: &mut Vec<Bytes>, path: &[u8]) -> Result<()
     push_command(alloc, commands, b"put ", path, b" x")?;
     push_command(alloc, commands, b"rmdir ", path, b"")?;
     push_command(alloc, commands, b"rm ", path, b"")?;
+    push_command(alloc, commands, b"settrans ", path, b"")?;
     push_command(alloc, commands, b"settrans -g ", path, b"")?;
     push_command(alloc, commands, b"chmod 644 ", path, b"")?;
     Ok(())

@@ -10,4 +10,5 @@ returns c =
     let four = one_behind old _ _ _ _ three c.in_ok-push_command-4.ensures in
     let five = one_behind old _ _ _ _ four c.in_ok-push_command-5.ensures in
     let six = one_behind old _ _ _ _ five c.in_ok-push_command-6.ensures in
-    one_behind old _ _ _ _ six c.in_ok-push_command-7.ensures
+    let seven = one_behind old _ _ _ _ six c.in_ok-push_command-7.ensures in
+    one_behind old _ _ _ _ seven c.in_ok-push_command-8.ensures
