@@ -1,0 +1,49 @@
+//! How a call of the library ended.
+ghost use Rattle.std.specs.Prelude.{◌≡◌};
+ghost use Rattle.hurd_c.specs.Ends.{said_of, unmade};
+
+use hurd_terminal::Fault;
+
+/// How a call of the library ended.
+#[repr(C)]
+#[derive(Clone, Copy, Debug)]
+pub struct Said {
+    /// 0 all was made and told; 1 the text is bad; 2 the world was refused; 3 memory was refused; 4 there is no world.
+    pub status: u32,
+    /// The number of the refusal where the world was refused, else 0.
+    pub error: u32,
+    /// The line at which the text is bad, else 0.
+    pub line: u64,
+    /// How many bytes were told.
+    pub length: usize,
+}
+
+/// What is said of an end.
+pub fn ending(ended: Result<(), Fault>, length: usize) -> Said
+    ensures { result ≡ said_of ended length }
+{
+    let (status, error, line) = match ended {
+        Ok(()) => (0, 0, 0),
+        Err(Fault::Bad { line }) => (1, 0, line),
+        Err(Fault::Boot(errno)) => (2, errno.number(), 0),
+        Err(Fault::Memory | Fault::Read | Fault::Write | Fault::Unknown) => (3, 0, 0),
+    };
+    Said {
+        status,
+        error,
+        line,
+        length,
+    }
+}
+
+/// What is said where there is no world.
+pub fn no_world() -> Said
+    ensures { result ≡ unmade }
+{
+    Said {
+        status: 4,
+        error: 0,
+        line: 0,
+        length: 0,
+    }
+}
