@@ -154,9 +154,9 @@ fn push_witness(
     };
     text.extend_from_slice(b"    by ")?;
     text.extend_from_slice(witness.trial.as_slice())?;
-    text.extend_from_slice(b": ")?;
+    text.extend_from_slice(b"\n      before: ")?;
     push_answer(text, witness.before.as_slice())?;
-    text.extend_from_slice(b" -> ")?;
+    text.extend_from_slice(b"\n      behind: ")?;
     push_answer(text, witness.behind.as_slice())?;
     text.push(b'\n')?;
     Ok(())
