@@ -1,5 +1,5 @@
 -- What a call of a list is told.
-use Rattle.std.proofs.Common.{◌≡◌, subst, List, inl, inr, false, true, Option, Some, None, ℕ, refl, sym, ap, ◌∙◌, true≢false}
+use Rattle.std.proofs.Common.{◌≡◌, ◌⊎◌, subst, List, inl, inr, false, true, Option, Some, None, ℕ, refl, sym, ap, ◌∙◌, true≢false}
 use Rattle.std.specs.Option.{option_map}
 use Rattle.hurd_creds.specs.declared.errno.Errno.TheVariants.{ENOMEM}
 use Rattle.hurd_trans_iface.specs.Meaning.{Meaning}
@@ -59,3 +59,13 @@ module _ {S : Type 0} (f : S → Meaning) (listed : ListedCall S) (server : Opti
 
     pub world_right : x ≡ after_call (listed_by f listed) w
     world_right = right.1
+
+called_leaves : (w : World) (t : ℕ) (c : Call) (reply : Reply) (x : World) → Called w t c reply x → (x ≡ w) ⊎ (x ≡ after w t c)
+called_leaves w t c reply x (inl step) = inr (ap (λ (p : Reply × World). p.1) step)
+called_leaves w t c reply x (inr lacks) = inl lacks.same
+
+-- a call of a list was made, or nothing changed
+pub made_or_same : {S : Type 0} (f : S → Meaning) (listed : ListedCall S) (server : Option S) → begun listed.server ≡ option_map f server → (d : call.Call S) → d ≡ with_server server listed.call
+    → (w : World) (reply : Reply) (x : World) → Called w listed.task.0 (call_by f d) reply x → (x ≡ w) ⊎ (x ≡ after_call (listed_by f listed) w)
+made_or_same f listed server made d is w reply x called =
+    called_leaves w listed.task.0 (listed_by f listed).call reply x (subst (λ (c : Call). Called w listed.task.0 c reply x) (made_call f listed server made d is) called)

@@ -1,5 +1,5 @@
 //! Making a call of a list, with the server that it brings.
-ghost use Rattle.std.specs.Prelude.{◌≡◌, IfOk, OnOk};
+ghost use Rattle.std.specs.Prelude.{◌≡◌, ◌⊎◌, IfErr, IfOk, OnOk};
 ghost use Rattle.std.specs.Option.{option_map};
 ghost use Rattle.hurd_kinds.specs.Boxes.{box_meaning};
 ghost use Rattle.hurd_machine.specs.Calls.{lacks_memory};
@@ -35,7 +35,7 @@ pub fn brought(alloc: Global, words: &Option<Words>) -> Result<Option<ServerBox>
     }
 }
 
-/// Makes a call with the server that its words make, and gives what is printed of it. An error is want of memory.
+/// Makes a call with the server that its words make, and gives what is printed of it. An error is want of memory: then the call was made, or nothing changed.
 pub fn part<S: Server>(
     world: &mut World<S>,
     alloc: Global,
@@ -45,6 +45,8 @@ pub fn part<S: Server>(
     requires { begun listed.server ≡ option_map S.meaning server }
     ensures part { IfOk result (λ part. part ≡ part_of (listed_by S.meaning listed) (world_of S.meaning world.old)) }
     ensures world { OnOk result (world_of S.meaning world.new ≡ after_call (listed_by S.meaning listed) (world_of S.meaning world.old)) }
+    ensures err { IfErr result (λ _. (world_of S.meaning world.new ≡ world_of S.meaning world.old)
+        ⊎ (world_of S.meaning world.new ≡ after_call (listed_by S.meaning listed) (world_of S.meaning world.old))) }
 {
     let ListedCall {
         task,

@@ -1,5 +1,4 @@
 pub mod PartLaws
 pub mod MadeLaws
-pub mod LackLaws
 pub mod ReadLaws
 pub mod TextLaws
