@@ -6,7 +6,7 @@ ghost use Rattle.hurd_creds.specs.declared.name.Name.{Name};
 ghost use Rattle.hurd_creds.specs.declared.name.TaskId.{TaskId};
 ghost use Rattle.hurd_ports.specs.Seats.{seat_task};
 ghost use Rattle.hurd_sight.specs.Parts.{maybe_named};
-ghost use Rattle.hurd_views.specs.Views.{Fills, RowsAreViews, SameRows, Views, ViewsAreOne, has_row, name_found, names_found, names_seen, or_no_row, row_at, rows_for};
+ghost use Rattle.hurd_views.specs.Views.{Fills, RowsAreViews, SameRows, TellsParts, Views, ViewsAreOne, ViewsStay, has_row, name_found, names_found, names_seen, or_no_row, row_at, rows_for, tells_in};
 ghost use Rattle.hurd_views.specs.declared.rows.Row.{Row};
 
 use crate::rows::Row;
@@ -14,7 +14,7 @@ use crate::told;
 use hurd_core::Core;
 use hurd_creds::{Name, Same, TaskId, all_same};
 use hurd_ports::{Ports, TaskSeat};
-use hurd_sight::{NameSet, Sight};
+use hurd_sight::{NameSet, SeenPart, Sight};
 use hurd_trans_iface::Server;
 use indexmap::IndexMap;
 use std::alloc::{AllocError, Global};
@@ -100,6 +100,60 @@ impl View {
         self.count == other.count
             && all_same(self.seats.as_slice(), other.seats.as_slice())
             && self.rows.is_same(&other.rows)
+    }
+
+    /// Whether a part was seen. Takes no memory.
+    pub fn tells(&self, part: SeenPart) -> bool
+        ensures { result ≡ tells_in self.now part }
+    {
+        match part {
+            SeenPart::Attributes(node) => {
+                matches!(
+                    self.rows.get(node),
+                    Some(Row {
+                        attributes: Some(_),
+                        ..
+                    })
+                )
+            }
+            SeenPart::Empty(node) => {
+                matches!(self.rows.get(node), Some(Row { empty: Some(_), .. }))
+            }
+            SeenPart::Body(node) => {
+                matches!(self.rows.get(node), Some(Row { body: Some(_), .. }))
+            }
+            SeenPart::Ends(node) => {
+                matches!(self.rows.get(node), Some(Row { ends: Some(_), .. }))
+            }
+            SeenPart::Open(open_name) => {
+                matches!(
+                    self.rows.get(open_name),
+                    Some(Row {
+                        opened: Some(_),
+                        ..
+                    })
+                )
+            }
+            SeenPart::Options(server) => {
+                matches!(
+                    self.rows.get(server),
+                    Some(Row {
+                        server: Some(_),
+                        ..
+                    })
+                )
+            }
+            SeenPart::Text(server) => {
+                matches!(self.rows.get(server), Some(Row { text: Some(_), .. }))
+            }
+            SeenPart::Users(server) => {
+                matches!(self.rows.get(server), Some(Row { users: Some(_), .. }))
+            }
+            SeenPart::Total(server) => {
+                matches!(self.rows.get(server), Some(Row { total: Some(_), .. }))
+            }
+            SeenPart::Task(task) => self.sight.tasks().contains(&task),
+        }
     }
 }
 
@@ -316,4 +370,14 @@ impl Same for SeatRow {
 pub fn rows_are_views()
     ensures same { RowsAreViews }
     ensures one { ViewsAreOne }
+{}
+
+/// A law: a view stays the view of these tasks while nothing that they see changes.
+pub fn views_stay()
+    ensures { ViewsStay }
+{}
+
+/// A law: a view tells exactly the parts that its tasks see.
+pub fn views_tell_parts()
+    ensures { TellsParts }
 {}
