@@ -1,10 +1,9 @@
 -- A view stays the view of its tasks while nothing that they see changes.
 use Rattle.std.proofs.Common.{◌≡◌, ◌∙◌, inl, inr, sym, refl, ap, ap₂, subst, ℕ, suc, Bool, true, false, List, [], ◌∷◌, ◌++◌, take, if◌then◌else◌}
-use Rattle.std.specs.Prelude.{◌↔◌, ◌&&◌, Option, Some, None, option_and_then, slice_get}
-use Rattle.std.specs.FinMap as fin
+use Rattle.std.specs.Prelude.{Option, Some, None, option_and_then, slice_get}
 use Rattle.std.specs.Option.{option_map}
 use Rattle.std.proofs.lemmas.Bool.{and_parts}
-use Rattle.hurd_machine.proofs.Common.{AttrOf, BodyOf, Control, Exec, Header, Holds, IdSets, Io, IsAmong, Knows, Name, OfControl, OfNode, OfSeat, OpenMap, OpenOf, Opened, READ, Right, SameView, Seen, Sees, ServerInfo, Sound, Start, Task, TaskId, TaskOf, ToSearch, WRITE, World, active_at, bare, faced, flat_map, header_at, home_at, is_dir, rights_of, server_at, task_at, with_text}
+use Rattle.hurd_machine.proofs.Common.{AttrOf, BodyOf, Control, Exec, Header, Holds, IdSets, Io, IsAmong, Knows, Name, OfControl, OfNode, OfSeat, OpenOf, Opened, READ, Right, Seen, Sees, ServerInfo, Start, Task, TaskId, ToSearch, WRITE, World, active_at, bare, faced, flat_map, header_at, home_at, is_dir, rights_of, server_at, with_text}
 use Rattle.hurd_machine.proofs.Faces.{face_reads, of_face}
 use Rattle.hurd_machine.proofs.Listed.{dir_kind}
 use Rattle.hurd_machine.proofs.Views.{Agree, Agree-sym, HasGid-kept, HasUid-kept, Holds-kept, Sees-back, Sees-kept, active_same, agree_of, body_same, face_known, header_same, home_same, open_same, same_tasks}

@@ -8,7 +8,7 @@ use Rattle.hurd_sight.specs.Reach.{among}
 use Rattle.hurd_sight.specs.declared.parts.SeenPart.{SeenPart}
 use Rattle.hurd_sight.specs.declared.parts.SeenPart.TheVariants as seen
 use Rattle.hurd_sight.proofs.PartLaws.{parts_are_seen}
-use Rattle.hurd_views.specs.Views.{TellsParts, Views, row_at, row_of, tells_in, told_if}
+use Rattle.hurd_views.specs.Views.{TellsParts, Views, tells_in, told_if}
 use Rattle.hurd_views.specs.declared.rows.Row.{Row}
 use Rattle.hurd_views.specs.declared.view.View.{View}
 use Rattle.hurd_views.proofs.ViewLaws.{row_there}

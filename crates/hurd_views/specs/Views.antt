@@ -180,17 +180,30 @@ abbrev pub ViewsStay : Type 0
 ViewsStay =
     (tasks : List TaskId) (v w : World) (a : View) → Sound v → Sound w → SameView (among tasks) v w → Views tasks v a → Views tasks w a
 
--- whether a part was seen, by the row of its name; of a task by the list
+-- whether a row has a part of this kind; none has a task
+abbrev pub row_tells : Row → SeenPart → Bool
+row_tells r (seen.Attributes n) = is_some r.attributes
+row_tells r (seen.Empty n) = is_some r.empty
+row_tells r (seen.Body n) = is_some r.body
+row_tells r (seen.Ends n) = is_some r.ends
+row_tells r (seen.Open n) = is_some r.opened
+row_tells r (seen.Options n) = is_some r.server
+row_tells r (seen.Text n) = is_some r.text
+row_tells r (seen.Users n) = is_some r.users
+row_tells r (seen.Total n) = is_some r.total
+row_tells r (seen.Task t) = false
+
+-- whether a part was seen, by the row that is kept under its name; of a task by the list
 abbrev pub tells_in : View → SeenPart → Bool
-tells_in a (seen.Attributes n) = is_some (row_at a.rows n).attributes
-tells_in a (seen.Empty n) = is_some (row_at a.rows n).empty
-tells_in a (seen.Body n) = is_some (row_at a.rows n).body
-tells_in a (seen.Ends n) = is_some (row_at a.rows n).ends
-tells_in a (seen.Open n) = is_some (row_at a.rows n).opened
-tells_in a (seen.Options n) = is_some (row_at a.rows n).server
-tells_in a (seen.Text n) = is_some (row_at a.rows n).text
-tells_in a (seen.Users n) = is_some (row_at a.rows n).users
-tells_in a (seen.Total n) = is_some (row_at a.rows n).total
+tells_in a (seen.Attributes n) = row_tells (row_at a.rows n) (seen.Attributes n)
+tells_in a (seen.Empty n) = row_tells (row_at a.rows n) (seen.Empty n)
+tells_in a (seen.Body n) = row_tells (row_at a.rows n) (seen.Body n)
+tells_in a (seen.Ends n) = row_tells (row_at a.rows n) (seen.Ends n)
+tells_in a (seen.Open n) = row_tells (row_at a.rows n) (seen.Open n)
+tells_in a (seen.Options n) = row_tells (row_at a.rows n) (seen.Options n)
+tells_in a (seen.Text n) = row_tells (row_at a.rows n) (seen.Text n)
+tells_in a (seen.Users n) = row_tells (row_at a.rows n) (seen.Users n)
+tells_in a (seen.Total n) = row_tells (row_at a.rows n) (seen.Total n)
 tells_in a (seen.Task t) = among a.sight.tasks.items t.0
 
 -- a view tells exactly the parts that its tasks see

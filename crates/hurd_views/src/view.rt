@@ -6,7 +6,7 @@ ghost use Rattle.hurd_creds.specs.declared.name.Name.{Name};
 ghost use Rattle.hurd_creds.specs.declared.name.TaskId.{TaskId};
 ghost use Rattle.hurd_ports.specs.Seats.{seat_task};
 ghost use Rattle.hurd_sight.specs.Parts.{maybe_named};
-ghost use Rattle.hurd_views.specs.Views.{Fills, RowsAreViews, SameRows, TellsParts, Views, ViewsAreOne, ViewsStay, has_row, name_found, names_found, names_seen, or_no_row, row_at, rows_for, tells_in};
+ghost use Rattle.hurd_views.specs.Views.{Fills, RowsAreViews, SameRows, TellsParts, Views, ViewsAreOne, ViewsStay, has_row, name_found, names_found, names_seen, or_no_row, row_at, row_tells, rows_for, tells_in};
 ghost use Rattle.hurd_views.specs.declared.rows.Row.{Row};
 
 use crate::rows::Row;
@@ -107,51 +107,15 @@ impl View {
         ensures { result ≡ tells_in self.now part }
     {
         match part {
-            SeenPart::Attributes(node) => {
-                matches!(
-                    self.rows.get(node),
-                    Some(Row {
-                        attributes: Some(_),
-                        ..
-                    })
-                )
-            }
-            SeenPart::Empty(node) => {
-                matches!(self.rows.get(node), Some(Row { empty: Some(_), .. }))
-            }
-            SeenPart::Body(node) => {
-                matches!(self.rows.get(node), Some(Row { body: Some(_), .. }))
-            }
-            SeenPart::Ends(node) => {
-                matches!(self.rows.get(node), Some(Row { ends: Some(_), .. }))
-            }
-            SeenPart::Open(open_name) => {
-                matches!(
-                    self.rows.get(open_name),
-                    Some(Row {
-                        opened: Some(_),
-                        ..
-                    })
-                )
-            }
-            SeenPart::Options(server) => {
-                matches!(
-                    self.rows.get(server),
-                    Some(Row {
-                        server: Some(_),
-                        ..
-                    })
-                )
-            }
-            SeenPart::Text(server) => {
-                matches!(self.rows.get(server), Some(Row { text: Some(_), .. }))
-            }
-            SeenPart::Users(server) => {
-                matches!(self.rows.get(server), Some(Row { users: Some(_), .. }))
-            }
-            SeenPart::Total(server) => {
-                matches!(self.rows.get(server), Some(Row { total: Some(_), .. }))
-            }
+            SeenPart::Attributes(name)
+            | SeenPart::Empty(name)
+            | SeenPart::Body(name)
+            | SeenPart::Ends(name)
+            | SeenPart::Open(name)
+            | SeenPart::Options(name)
+            | SeenPart::Text(name)
+            | SeenPart::Users(name)
+            | SeenPart::Total(name) => self.rows.tells(name, part),
             SeenPart::Task(task) => self.sight.tasks().contains(&task),
         }
     }
@@ -273,6 +237,16 @@ impl Rows {
         ensures { or_no_row (option_copied result) ≡ row_at self.now name }
     {
         self.rows.get(&name)
+    }
+
+    /// Whether such a part of a name was seen.
+    fn tells(&self, name: Name, part: SeenPart) -> bool
+        ensures { result ≡ row_tells (row_at self.now name) part }
+    {
+        match self.get(name) {
+            Some(row) => row.tells(part),
+            None => false,
+        }
     }
 
     /// Whether a name is there.
