@@ -3,3 +3,5 @@ pub mod RowLaws
 pub mod ViewLaws
 pub mod ToldLaws
 pub mod OneView
+pub mod StayLaws
+pub mod TellLaws

@@ -29,7 +29,7 @@ reach_is_one S w ids other x y = λ i. record { uids = uids i; gids = gids i }
     gids = set.same_set nat_cmp_total nat_cmp-IsAntisymmetric ids.gids other.gids (λ g. one_test _ _ (x.gids g) (y.gids g))
 
 -- the same of each name
-map_same : {X Y : Type 0} (f g : X → Y) (xs : List X) → ((x : X) → f x ≡ g x) → map f xs ≡ map g xs
+pub map_same : {X Y : Type 0} (f g : X → Y) (xs : List X) → ((x : X) → f x ≡ g x) → map f xs ≡ map g xs
 map_same f g [] same = λ i. []
 map_same f g (x ∷ xs) same = λ i. same x i ∷ map_same f g xs same i
 

@@ -222,7 +222,7 @@ seat_told v w (x ∷ xs) t e is = elim (or_cases (nat_eq x.0 t) (among xs t) is)
     rest : map (λ (y : TaskId). task_at v y.0) xs ≡ map (λ (y : TaskId). task_at w y.0) xs
     rest = let cons : task_at v x.0 ∷ map (λ (y : TaskId). task_at v y.0) xs ≡ task_at w x.0 ∷ map (λ (y : TaskId). task_at w y.0) xs = e in cc
 
-seats_same : (v w : World) (tasks : List TaskId) → ((t : ℕ) → among tasks t ≡ true → task_at v t ≡ task_at w t) → map (λ (x : TaskId). task_at v x.0) tasks ≡ map (λ (x : TaskId). task_at w x.0) tasks
+pub seats_same : (v w : World) (tasks : List TaskId) → ((t : ℕ) → among tasks t ≡ true → task_at v t ≡ task_at w t) → map (λ (x : TaskId). task_at v x.0) tasks ≡ map (λ (x : TaskId). task_at w x.0) tasks
 seats_same v w [] same = refl
 seats_same v w (x ∷ xs) same =
     ap (λ (o : Option Task). o ∷ map (λ (y : TaskId). task_at v y.0) xs) (same x.0 (or_left (nat_eq x.0 x.0) (among xs x.0) ((unsigned_Decides x.0 x.0).1 refl)))
@@ -364,7 +364,7 @@ module _ (tasks : List TaskId) (v w : World) (a b : View) (sound_v : Sound v) (s
         ∙ (total ∙ total_there S w n ((says_w (seen.Total n)).0 (sym (both (seen.Total n)) ∙ on))) in
         cc
 
-    row_same : (n : Name) → row_of v a.sight n ≡ row_of w b.sight n
+    pub row_same : (n : Name) → row_of v a.sight n ≡ row_of w b.sight n
     row_same n =
         row_from
         (told_same _ _ _ _ (both (seen.Attributes n)) (λ on. node_same n (equal (seen.Attributes n) on)))

@@ -1,5 +1,5 @@
 -- What a set of tasks sees of a world, as it is kept to be compared.
-use Rattle.std.specs.Prelude.{◌≡◌, ◌↔◌, ℕ, Bool, true, false, if◌then◌else◌, List, [], ◌∷◌, ◌++◌, length, map, Option, Some, None}
+use Rattle.std.specs.Prelude.{◌≡◌, ◌↔◌, ℕ, Bool, true, false, if◌then◌else◌, List, [], ◌∷◌, ◌++◌, length, map, Option, Some, None, is_some}
 use Rattle.std.specs.List.{list_any}
 use Rattle.std.specs.Option.{option_map}
 use Rattle.hurd_creds.specs.declared.name.Name.{Name}
@@ -12,13 +12,14 @@ use Rattle.hurd_trans_iface.specs.Meaning.{options_of}
 use Rattle.hurd_trans_iface.specs.Totals.{total_in}
 use Rattle.hurd_nodes.specs.Shown.{ServerInfo, nodes_in}
 use Rattle.hurd_machine.specs.World.{World, nodes_of, active_at, body_at, ends_at, header_at, home_at, open_at, server_at, task_at, words_at}
-use Rattle.hurd_machine.specs.Sight.{SameView, bare, holders, known_text, users}
+use Rattle.hurd_machine.specs.Sight.{SameView, Sees, bare, holders, known_text, users}
 use Rattle.hurd_machine.specs.Sound.{Sound}
 use Rattle.hurd_sight.specs.Looks.{Gathered, Looks, sees_with}
-use Rattle.hurd_sight.specs.Parts.{named}
+use Rattle.hurd_sight.specs.Parts.{named, part_of}
 use Rattle.hurd_sight.specs.Reach.{among}
 use Rattle.hurd_sight.specs.declared.found.Why.{Why}
 use Rattle.hurd_sight.specs.declared.looks.Sight.{Sight}
+use Rattle.hurd_sight.specs.declared.parts.SeenPart.{SeenPart}
 use Rattle.hurd_sight.specs.declared.parts.SeenPart.TheVariants as seen
 use Rattle.hurd_views.specs.declared.rows.BodyRow.{BodyRow}
 use Rattle.hurd_views.specs.declared.rows.BodyRow.TheVariants as body
@@ -173,3 +174,38 @@ pub record SameRows (v w : View) : Type 0 where
 abbrev pub RowsAreViews : Type 0
 RowsAreViews =
     (tasks : List TaskId) (v w : World) (a b : View) → Sound v → Sound w → Views tasks v a → Views tasks w b → SameRows a b ↔ SameView (among tasks) v w
+
+-- a view stays the view of these tasks while nothing that they see changes
+abbrev pub ViewsStay : Type 0
+ViewsStay =
+    (tasks : List TaskId) (v w : World) (a : View) → Sound v → Sound w → SameView (among tasks) v w → Views tasks v a → Views tasks w a
+
+-- whether a row has a part of this kind; none has a task
+abbrev pub row_tells : Row → SeenPart → Bool
+row_tells r (seen.Attributes n) = is_some r.attributes
+row_tells r (seen.Empty n) = is_some r.empty
+row_tells r (seen.Body n) = is_some r.body
+row_tells r (seen.Ends n) = is_some r.ends
+row_tells r (seen.Open n) = is_some r.opened
+row_tells r (seen.Options n) = is_some r.server
+row_tells r (seen.Text n) = is_some r.text
+row_tells r (seen.Users n) = is_some r.users
+row_tells r (seen.Total n) = is_some r.total
+row_tells r (seen.Task t) = false
+
+-- whether a part was seen, by the row that is kept under its name; of a task by the list
+abbrev pub tells_in : View → SeenPart → Bool
+tells_in a (seen.Attributes n) = row_tells (row_at a.rows n) (seen.Attributes n)
+tells_in a (seen.Empty n) = row_tells (row_at a.rows n) (seen.Empty n)
+tells_in a (seen.Body n) = row_tells (row_at a.rows n) (seen.Body n)
+tells_in a (seen.Ends n) = row_tells (row_at a.rows n) (seen.Ends n)
+tells_in a (seen.Open n) = row_tells (row_at a.rows n) (seen.Open n)
+tells_in a (seen.Options n) = row_tells (row_at a.rows n) (seen.Options n)
+tells_in a (seen.Text n) = row_tells (row_at a.rows n) (seen.Text n)
+tells_in a (seen.Users n) = row_tells (row_at a.rows n) (seen.Users n)
+tells_in a (seen.Total n) = row_tells (row_at a.rows n) (seen.Total n)
+tells_in a (seen.Task t) = among a.sight.tasks.items t.0
+
+-- a view tells exactly the parts that its tasks see
+abbrev pub TellsParts : Type 0
+TellsParts = (tasks : List TaskId) (w : World) (a : View) (p : SeenPart) → Views tasks w a → (tells_in a p ≡ true) ↔ Sees (among tasks) w (part_of p)

@@ -10,4 +10,4 @@ mod view;
 pub use rows::{
     BodyRow, EntryRow, EntryRows, NodeNames, NodeRow, OpenRow, Row, ServerRow, TextRow,
 };
-pub use view::{Rows, SeatRow, View, rows_are_views};
+pub use view::{Rows, SeatRow, View, rows_are_views, views_stay, views_tell_parts};

@@ -1,10 +1,11 @@
 //! What is seen of things that have a name, as it can be kept and compared.
 ghost use Rattle.std.specs.Prelude.{◌≡◌, ◌↔◌, IfOk, IsTrue};
 ghost use Rattle.hurd_views.specs.Marks.{text_mark};
-ghost use Rattle.hurd_views.specs.Views.{HaveSameAccess, HaveSameMarks, HaveSameNode, HaveSamePlace, HaveSameServer, no_row};
+ghost use Rattle.hurd_views.specs.Views.{HaveSameAccess, HaveSameMarks, HaveSameNode, HaveSamePlace, HaveSameServer, no_row, row_tells};
 
 use hurd_creds::{Attrs, Bytes, Ids, Name, NodeName, Same, ServerName, all_same};
 use hurd_ports::{Ends, Opened};
+use hurd_sight::SeenPart;
 use hurd_trans_iface::Words;
 use std::alloc::{AllocError, Global};
 use std::marker::Model;
@@ -357,5 +358,23 @@ impl Row {
             && self.text.is_none()
             && self.users.is_none()
             && self.total.is_none()
+    }
+
+    /// Whether there is a part of this kind. Takes no memory.
+    pub(crate) fn tells(&self, part: SeenPart) -> bool
+        ensures { result ≡ row_tells self.now part }
+    {
+        match part {
+            SeenPart::Attributes(_) => self.attributes.is_some(),
+            SeenPart::Empty(_) => self.empty.is_some(),
+            SeenPart::Body(_) => self.body.is_some(),
+            SeenPart::Ends(_) => self.ends.is_some(),
+            SeenPart::Open(_) => self.opened.is_some(),
+            SeenPart::Options(_) => self.server.is_some(),
+            SeenPart::Text(_) => self.text.is_some(),
+            SeenPart::Users(_) => self.users.is_some(),
+            SeenPart::Total(_) => self.total.is_some(),
+            SeenPart::Task(_) => false,
+        }
     }
 }

@@ -6,7 +6,7 @@ ghost use Rattle.hurd_creds.specs.declared.name.Name.{Name};
 ghost use Rattle.hurd_creds.specs.declared.name.TaskId.{TaskId};
 ghost use Rattle.hurd_ports.specs.Seats.{seat_task};
 ghost use Rattle.hurd_sight.specs.Parts.{maybe_named};
-ghost use Rattle.hurd_views.specs.Views.{Fills, RowsAreViews, SameRows, Views, ViewsAreOne, has_row, name_found, names_found, names_seen, or_no_row, row_at, rows_for};
+ghost use Rattle.hurd_views.specs.Views.{Fills, RowsAreViews, SameRows, TellsParts, Views, ViewsAreOne, ViewsStay, has_row, name_found, names_found, names_seen, or_no_row, row_at, row_tells, rows_for, tells_in};
 ghost use Rattle.hurd_views.specs.declared.rows.Row.{Row};
 
 use crate::rows::Row;
@@ -14,7 +14,7 @@ use crate::told;
 use hurd_core::Core;
 use hurd_creds::{Name, Same, TaskId, all_same};
 use hurd_ports::{Ports, TaskSeat};
-use hurd_sight::{NameSet, Sight};
+use hurd_sight::{NameSet, SeenPart, Sight};
 use hurd_trans_iface::Server;
 use indexmap::IndexMap;
 use std::alloc::{AllocError, Global};
@@ -100,6 +100,24 @@ impl View {
         self.count == other.count
             && all_same(self.seats.as_slice(), other.seats.as_slice())
             && self.rows.is_same(&other.rows)
+    }
+
+    /// Whether a part was seen. Takes no memory.
+    pub fn tells(&self, part: SeenPart) -> bool
+        ensures { result ≡ tells_in self.now part }
+    {
+        match part {
+            SeenPart::Attributes(name)
+            | SeenPart::Empty(name)
+            | SeenPart::Body(name)
+            | SeenPart::Ends(name)
+            | SeenPart::Open(name)
+            | SeenPart::Options(name)
+            | SeenPart::Text(name)
+            | SeenPart::Users(name)
+            | SeenPart::Total(name) => self.rows.tells(name, part),
+            SeenPart::Task(task) => self.sight.tasks().contains(&task),
+        }
     }
 }
 
@@ -221,6 +239,16 @@ impl Rows {
         self.rows.get(&name)
     }
 
+    /// Whether such a part of a name was seen.
+    fn tells(&self, name: Name, part: SeenPart) -> bool
+        ensures { result ≡ row_tells (row_at self.now name) part }
+    {
+        match self.get(name) {
+            Some(row) => row.tells(part),
+            None => false,
+        }
+    }
+
     /// Whether a name is there.
     pub fn has(&self, name: Name) -> bool
         ensures { result ≡ has_row self.now name }
@@ -316,4 +344,14 @@ impl Same for SeatRow {
 pub fn rows_are_views()
     ensures same { RowsAreViews }
     ensures one { ViewsAreOne }
+{}
+
+/// A law: a view stays the view of these tasks while nothing that they see changes.
+pub fn views_stay()
+    ensures { ViewsStay }
+{}
+
+/// A law: a view tells exactly the parts that its tasks see.
+pub fn views_tell_parts()
+    ensures { TellsParts }
 {}
