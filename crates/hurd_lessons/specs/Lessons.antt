@@ -136,6 +136,10 @@ pub record Lessons (who : List ℕ) (a b : View) (text : List ℕ) : Type 0 wher
 abbrev pub SilentWhereSame : Type 0
 SilentWhereSame = (who : List ℕ) (a b : View) (text : List ℕ) → Lessons who a b text → (text ≡ []) ↔ SameRows a b
 
+-- between a view and itself nothing is learned
+abbrev pub NothingBetween : Type 0
+NothingBetween = (who : List ℕ) (a : View) → Lessons who a a []
+
 -- two views have one text
 abbrev pub OneText : Type 0
 OneText = (who : List ℕ) (a b : View) (s t : List ℕ) → Lessons who a b s → Lessons who a b t → s ≡ t

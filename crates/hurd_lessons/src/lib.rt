@@ -16,7 +16,7 @@ mod seen_tasks;
 mod tally;
 mod values;
 
-pub use laws::{said_in_one_way, said_in_sentences, untaught_where_unmoved};
+pub use laws::{nothing_between, said_in_one_way, said_in_sentences, untaught_where_unmoved};
 pub use lines::{lessons, silent_where_same};
 pub use seen_lines::seen;
 pub use tally::Tally;
