@@ -5,7 +5,7 @@ ghost use Rattle.hurd_creds.specs.Bits.{NOLINK, asks};
 ghost use Rattle.hurd_machine.specs.World.{World};
 ghost use Rattle.hurd_core.specs.Core.{world_of};
 ghost use Rattle.hurd_lookup.specs.Path.{names_in};
-ghost use Rattle.hurd_lookup.specs.Lookup.{Authority as AuthorityAt, cross, crossed_at, enter, follow, hold_on, is_last, root_on, to_cross};
+ghost use Rattle.hurd_lookup.specs.Lookup.{Authority as AuthorityAt, cross, crossed_at, enter, follow, hold_on, is_last, to_cross};
 ghost use Rattle.hurd_lookup.specs.Ends.{CanGo, Finds, IsHere, authority_of, crossed_of, place_of, text_at};
 
 use crate::authority::Authority;
@@ -18,16 +18,6 @@ use hurd_core::Core;
 use hurd_creds::{Errno, NodeName, OpenFlags};
 use hurd_ports::Parent;
 use hurd_trans_iface::{Crossing, Server};
-
-/// The root of the server that is active on a node, if one is.
-fn root_on<S: Server>(core: &Core<S>, node: NodeName) -> Option<NodeName>
-    ensures { result ≡ root_on (world_of S.meaning core.now) node }
-{
-    match core.active(node) {
-        Some(server) => core.root_of(server),
-        None => None,
-    }
-}
 
 /// What is crossed at a node.
 #[derive(Clone, Copy, Debug, PartialEq, Eq)]
@@ -43,14 +33,13 @@ fn crossed_at<S: Server>(core: &Core<S>, here: Here) -> Option<Crossed>
     requires { IsHere (world_of S.meaning core.now) here }
     ensures { let w = world_of S.meaning core.now in option_map (crossed_of w here.node) result ≡ crossed_at w here.node }
 {
-    if core.active(here.node).is_some() {
-        let root = root_on(core, here.node)?;
-        return Some(Crossed::Active(root));
-    }
-    if here.has_words() {
-        Some(Crossed::Waiting)
-    } else {
-        None
+    match core.active(here.node) {
+        Some(server) => {
+            let root = core.root_of(server)?;
+            Some(Crossed::Active(root))
+        }
+        None if here.has_words() => Some(Crossed::Waiting),
+        None => None,
     }
 }
 

@@ -104,14 +104,16 @@ fn make_asked<'a, S: Server>(
     core: &Core<S>,
     authority: Authority,
     request: Request,
-    dir: NodeName,
+    here: Here,
     name: &'a [u8],
 ) -> Result<Outcome<'a>, Errno>
+    requires { IsHere (world_of S.meaning core.now) here }
     ensures { let w = world_of S.meaning core.now in let q = authority_of authority.entry in
-        Finds (outcome_of w q) (CanEnd w q) (make_asks w q request dir name.entry.now) result }
+        Finds (outcome_of w q) (CanEnd w q) (make_asks w q request here.node name.entry.now) result }
 {
+    let dir = here.node;
     core.can_make(dir, Some(name), Kind::File)?;
-    let Some(attrs) = core.attrs(dir) else {
+    let Some(attrs) = here.attrs else {
         return Err(Errno::EDIED);
     };
     if !authority.ids.may(&attrs, Want::Write) {
@@ -154,7 +156,7 @@ pub(crate) fn end_asked<'a, S: Server>(
             open_asked(core, authority.ids, request, here)?;
             Ok(Outcome::Opens(here.node, entered))
         }
-        Place::AtName(dir, name) => make_asked(core, authority, request, dir, name),
+        Place::AtName(here, name) => make_asked(core, authority, request, here, name),
         Place::Elsewhere(retry) => Ok(Outcome::Retries(retry)),
         Place::Waits(node) => Ok(Outcome::Starts(node)),
     }

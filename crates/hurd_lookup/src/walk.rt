@@ -41,7 +41,7 @@ pub(crate) enum Place<'a> {
     /// A node that is opened: of a server that was entered by a way, if one was.
     AtNode(Here, Option<Parent>),
     /// A name in a directory, under which a file is to be made.
-    AtName(NodeName, &'a [u8]),
+    AtName(Here, &'a [u8]),
     /// A name that is looked up in another lookup.
     Elsewhere(Retry<'a>),
     /// A node on which a translator waits that is to be started first.
@@ -178,11 +178,11 @@ impl Request {
 
     /// A name that no entry has. `ENOENT`: it is not the last, a directory is asked for, or `CREATE` is not.
     #[tactic(auto, unfolding(hurd_machine::specs::Plan::given))]
-    fn miss<'a>(self, dir: NodeName, name: &'a [u8], is_last: bool) -> Result<Place<'a>, Errno>
-        ensures { (w : World) (q : AuthorityAt) → Finds (place_of w q) (CanGo w q) (miss self dir name.entry.now is_last) result }
+    fn miss<'a>(self, here: Here, name: &'a [u8], is_last: bool) -> Result<Place<'a>, Errno>
+        ensures { (w : World) (q : AuthorityAt) → IsHere w here → Finds (place_of w q) (CanGo w q) (miss self here.node name.entry.now is_last) result }
     {
         if is_last && self.flags.asks(OpenFlags::CREATE) && !self.wants_dir {
-            Ok(Place::AtName(dir, name))
+            Ok(Place::AtName(here, name))
         } else {
             Err(Errno::ENOENT)
         }
@@ -282,7 +282,7 @@ fn stepped<'a, S: Server>(
         Next::Entry(node) => over(core, authority, request, dir, node, rest),
         Next::Branch(branch) => Ok(Step::To(go_into(request, branch, path))),
         Next::Back => Ok(Step::To(go_back(core, authority, request, rest)?)),
-        Next::Absent => Ok(Step::To(request.miss(dir, name, is_last(rest))?)),
+        Next::Absent => Ok(Step::To(request.miss(here, name, is_last(rest))?)),
     }
 }
 
