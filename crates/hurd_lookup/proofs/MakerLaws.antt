@@ -1,7 +1,7 @@
 -- A file is made by the server of its directory.
 use Rattle.std.proofs.Common.{◌≡◌, ℕ, List, Option, Some, None, refl}
-use Rattle.std.specs.Prelude.{Result, Ok}
-use Rattle.hurd_machine.proofs.Common.{Errno, Kind, Name, World, home_at, makes_at}
+use Rattle.std.specs.Prelude.{Ok}
+use Rattle.hurd_machine.proofs.Common.{Kind, Name, World, home_at, makes_at}
 use Rattle.std.specs.FinMap.{get}
 use Rattle.hurd_nodes.specs.Shown.{info_in, made_by}
 use Rattle.hurd_lookup.specs.Ends.{maker, maker_by}
