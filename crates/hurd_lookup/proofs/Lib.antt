@@ -7,6 +7,7 @@ pub mod LegLaws
 pub mod LentLaws
 pub mod LackingLaws
 pub mod EndLaws
+pub mod MakerLaws
 pub mod OutcomeLaws
 pub mod BeginLaws
 pub mod NestedLaws

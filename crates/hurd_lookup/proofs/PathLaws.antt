@@ -1,9 +1,11 @@
 -- The names of a path, one after another.
-use Rattle.std.proofs.Common.{◌≡◌, ◌∙◌, ◌⊎◌, inl, inr, ◌<◌, ◌≤◌, ℕ, suc, ◌+◌, not, Bool, true, false, cond, List, [], ◌∷◌, length, take, drop, length-drop, filter, nat_lt, Some, None, sym, refl, ap, arith}
+use Rattle.std.proofs.Common.{◌≡◌, ◌∙◌, ◌⊎◌, inl, inr, ◌<◌, ◌≤◌, ℕ, zero, suc, ◌+◌, nat_eq, not, Bool, true, false, cond, List, [], ◌∷◌, length, take, drop, length-drop, length-take, filter, nat_lt, Some, None, sym, refl, ap, arith}
 use Rattle.std.specs.List.{position, position_or_len, slice_split, onto_first}
 use Rattle.std.proofs.lemmas.List.Sums.{prefix_len-le-length}
 use Rattle.std.proofs.lemmas.Bool.Decides.{nat_tests}
-use Rattle.hurd_lookup.specs.Path.{names_in, is_nil, is_slash_byte, from_name}
+use Rattle.hurd_creds.specs.Limits.{most_name}
+use Rattle.hurd_lookup.specs.Path.{names_in, is_nil, is_slash_byte, is_short_name, from_name, has_short_names}
+use Rattle.hurd_lookup.specs.Lookup.{is_last}
 
 abbrev is_name : List ℕ → Bool
 is_name part = not (is_nil part)
@@ -88,3 +90,28 @@ one_in path h = elim (bare path).begins [
       let back : length (drop (position_or_len is_slash_byte (from_name path)) (from_name path)) ≤ length b.1 = rw b.2 (f.1) in
       (sym (bare path).names ∙ rw b.2 f.0, omega arith)
 ]
+
+-- no name is left exactly where nothing follows the slashes
+pub last_in : (path : List ℕ) (b : Bool) → b ≡ nat_eq (length (from_name path)) 0 → b ≡ is_last (names_in path)
+last_in path true is = rw (none_in path (grind (arith, nat_tests))) refl
+last_in path false is = rw (one_in path (λ e. grind (arith, nat_tests, e))).0 refl
+
+-- in a path that is no longer than a name may be no name is too long: it has at most n bytes
+short_by : (n : ℕ) (path : List ℕ) → length path ≤ n → length path ≤ most_name → has_short_names path ≡ true
+short_by zero path few short = rw (none_in path (let low : length (from_name path) ≤ length path = (bare path).short in omega (arith, low, few))) refl
+short_by (suc n) path few short = by (nat_eq (length (from_name path)) 0) refl (short_by n)
+  where
+    low : length (from_name path) ≤ length path
+    low = (bare path).short
+
+    by : (b : Bool) → nat_eq (length (from_name path)) 0 ≡ b → ((rest : List ℕ) → length rest ≤ n → length rest ≤ most_name → has_short_names rest ≡ true) → has_short_names path ≡ true
+    by true is ih = rw (none_in path (grind (arith, nat_tests))) refl
+    by false is ih =
+        let one = one_in path (λ e. grind (arith, nat_tests, e)) in
+        let k = position_or_len is_slash_byte (from_name path) in
+        let name : is_short_name (take k (from_name path)) ≡ true = grind (arith, nat_tests, low, length-take k (from_name path)) in
+        let more : has_short_names (drop k (from_name path)) ≡ true = ih (drop k (from_name path)) (omega (arith, one.1, few)) (omega (arith, one.1, short)) in
+        rw (one.0, name, more) refl
+
+pub short_names : (path : List ℕ) → length path ≤ most_name → has_short_names path ≡ true
+short_names path short = short_by (length path) path (omega arith) short

@@ -1,12 +1,11 @@
 //! Crossing the servers that are active on nodes.
 ghost use Rattle.std.specs.Prelude.{◌≡◌, ◌&&◌};
-ghost use Rattle.std.specs.Option.{option_map};
 ghost use Rattle.hurd_creds.specs.Bits.{NOLINK, asks};
 ghost use Rattle.hurd_machine.specs.World.{World};
 ghost use Rattle.hurd_core.specs.Core.{world_of};
 ghost use Rattle.hurd_lookup.specs.Path.{names_in};
-ghost use Rattle.hurd_lookup.specs.Lookup.{Authority as AuthorityAt, cross, crossed_at, enter, follow, hold_on, is_last, root_on, to_cross};
-ghost use Rattle.hurd_lookup.specs.Ends.{CanGo, Finds, IsHere, authority_of, crossed_of, place_of, text_at};
+ghost use Rattle.hurd_lookup.specs.Lookup.{Authority as AuthorityAt, cross, crossed_at, enter, follow, hold_on, is_last, to_cross};
+ghost use Rattle.hurd_lookup.specs.Ends.{CanGo, Finds, IsHere, Meeting, authority_of, place_of, text_at};
 
 use crate::authority::Authority;
 use crate::here::Here;
@@ -19,19 +18,11 @@ use hurd_creds::{Errno, NodeName, OpenFlags};
 use hurd_ports::Parent;
 use hurd_trans_iface::{Crossing, Server};
 
-/// The root of the server that is active on a node, if one is.
-fn root_on<S: Server>(core: &Core<S>, node: NodeName) -> Option<NodeName>
-    ensures { result ≡ root_on (world_of S.meaning core.now) node }
-{
-    match core.active(node) {
-        Some(server) => core.root_of(server),
-        None => None,
-    }
-}
-
-/// What is crossed at a node.
-#[derive(Clone, Copy, Debug, PartialEq, Eq)]
-pub(crate) enum Crossed {
+/// What is met at a node.
+#[derive(Clone, Copy, Debug)]
+pub(crate) enum Met {
+    /// The node, where nothing is to be crossed.
+    Node(Here),
     /// The server that is active there, by its root.
     Active(NodeName),
     /// A translator that waits there to be started.
@@ -39,18 +30,21 @@ pub(crate) enum Crossed {
 }
 
 /// What there is to cross at a node: the server that is active there, or else the translator that waits there, if one does.
-fn crossed_at<S: Server>(core: &Core<S>, here: Here) -> Option<Crossed>
-    requires { IsHere (world_of S.meaning core.now) here }
-    ensures { let w = world_of S.meaning core.now in option_map (crossed_of w here.node) result ≡ crossed_at w here.node }
+/// Where a server is active, the node isn't asked what it is.
+fn crossed_at<S: Server>(core: &Core<S>, node: NodeName) -> Met
+    ensures { let w = world_of S.meaning core.now in Meeting w node (crossed_at w node) result }
 {
-    if core.active(here.node).is_some() {
-        let root = root_on(core, here.node)?;
-        return Some(Crossed::Active(root));
+    if let Some(server) = core.active(node) {
+        return match core.root_of(server) {
+            Some(root) => Met::Active(root),
+            None => Met::Node(Here::at(core, node)),
+        };
     }
+    let here = Here::at(core, node);
     if here.has_words() {
-        Some(Crossed::Waiting)
+        Met::Waiting
     } else {
-        None
+        Met::Node(here)
     }
 }
 
@@ -58,16 +52,15 @@ fn crossed_at<S: Server>(core: &Core<S>, here: Here) -> Option<Crossed>
 pub(crate) fn to_cross<S: Server>(
     core: &Core<S>,
     request: Request,
-    here: Here,
+    node: NodeName,
     rest: &[u8],
-) -> Option<Crossed>
-    requires { IsHere (world_of S.meaning core.now) here }
-    ensures { let w = world_of S.meaning core.now in option_map (crossed_of w here.node) result ≡ to_cross w request here.node (names_in rest.now) }
+) -> Met
+    ensures { let w = world_of S.meaning core.now in Meeting w node (to_cross w request node (names_in rest.now)) result }
 {
     if is_last(rest) && request.flags.asks(OpenFlags::NOTRANS) {
-        None
+        Met::Node(Here::at(core, node))
     } else {
-        crossed_at(core, here)
+        crossed_at(core, node)
     }
 }
 

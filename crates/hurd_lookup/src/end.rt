@@ -3,7 +3,7 @@ ghost use Rattle.std.specs.Prelude.{◌≡◌, List};
 ghost use Rattle.hurd_nodes.specs.Shown.{header_in};
 ghost use Rattle.hurd_ports.specs.declared.parents.Parent.{Parent};
 ghost use Rattle.hurd_trans_iface.specs.Nodes.{is_dir};
-ghost use Rattle.hurd_machine.specs.World.{info_at, is_text, only_reads};
+ghost use Rattle.hurd_machine.specs.World.{info_at, is_removed, is_text, only_reads};
 ghost use Rattle.hurd_core.specs.Core.{world_of};
 ghost use Rattle.hurd_lookup.specs.Lookup.{end_asks, make_asks, may_open, open_asks};
 ghost use Rattle.hurd_lookup.specs.Ends.{CanEnd, CanGo, Finds, IsHere, authority_of, opened, outcome_of, place_of};
@@ -14,7 +14,7 @@ use crate::request::Request;
 use crate::retry::Retry;
 use crate::walk::Place;
 use hurd_core::{Core, NodeToMake};
-use hurd_creds::{Attrs, Errno, Ids, Kind, NodeName, OpenFlags, ServerName, Want};
+use hurd_creds::{Attrs, Errno, Ids, Kind, NodeName, OpenFlags, Want};
 use hurd_ports::Parent;
 use hurd_trans_iface::{Server, is_dir};
 
@@ -23,8 +23,8 @@ use hurd_trans_iface::{Server, is_dir};
 pub(crate) enum Outcome<'a> {
     /// A node is opened: of a server that was entered by a way, if one was.
     Opens(NodeName, Option<Parent>),
-    /// A file is made by a server, and opened.
-    Makes(ServerName, NodeToMake<'a>),
+    /// A file is made by its directory's server, and opened.
+    Makes(NodeToMake<'a>),
     /// A name is looked up elsewhere.
     Retries(Retry<'a>),
     /// A translator is to be started first, which waits on a node.
@@ -95,23 +95,32 @@ fn open_asked<S: Server>(
     Ok(())
 }
 
+/// Whether a directory of these attributes is removed. Where it has a parent, its server isn't asked.
+fn is_removed<S: Server>(core: &Core<S>, dir: NodeName, attrs: &Attrs) -> bool
+    ensures { result ≡ is_removed (world_of S.meaning core.now) dir (header_in attrs.now) }
+{
+    attrs.parent.is_none() && core.is_removed(dir, attrs)
+}
+
 /// Whether these ids may make a file in a directory under a name, and whose it is then: the least uid's.
 ///
 /// Errors, in order: those of `Core::can_make`, `EACCES` the ids may not write the directory, or have no uids, `ENOENT` a
 /// removed directory.
-#[tactic(auto, unfolding(hurd_machine::specs::Plan::on, hurd_machine::specs::Plan::given, hurd_machine::specs::Plan::first))]
+#[tactic(auto, using(crate::proofs::MakerLaws::maker_is), unfolding(hurd_machine::specs::Plan::on, hurd_machine::specs::Plan::given, hurd_machine::specs::Plan::first))]
 fn make_asked<'a, S: Server>(
     core: &Core<S>,
     authority: Authority,
     request: Request,
-    dir: NodeName,
+    here: Here,
     name: &'a [u8],
 ) -> Result<Outcome<'a>, Errno>
+    requires { IsHere (world_of S.meaning core.now) here }
     ensures { let w = world_of S.meaning core.now in let q = authority_of authority.entry in
-        Finds (outcome_of w q) (CanEnd w q) (make_asks w q request dir name.entry.now) result }
+        Finds (outcome_of w q) (CanEnd w q) (make_asks w q request here.node name.entry.now) result }
 {
+    let dir = here.node;
     core.can_make(dir, Some(name), Kind::File)?;
-    let Some(attrs) = core.attrs(dir) else {
+    let Some(attrs) = here.attrs else {
         return Err(Errno::EDIED);
     };
     if !authority.ids.may(&attrs, Want::Write) {
@@ -120,12 +129,9 @@ fn make_asked<'a, S: Server>(
     let Some(owner) = authority.ids.least_uid() else {
         return Err(Errno::EACCES);
     };
-    if core.is_removed(dir, &attrs) {
+    if is_removed(core, dir, &attrs) {
         return Err(Errno::ENOENT);
     }
-    let Some(server) = core.home(dir) else {
-        return Err(Errno::EDIED);
-    };
     let file = NodeToMake {
         dir,
         entry: Some(name),
@@ -133,7 +139,7 @@ fn make_asked<'a, S: Server>(
         group: attrs.group,
         mode: request.mode.known(),
     };
-    Ok(Outcome::Makes(server, file))
+    Ok(Outcome::Makes(file))
 }
 
 /// What is to be done at the end of the names.
@@ -154,7 +160,7 @@ pub(crate) fn end_asked<'a, S: Server>(
             open_asked(core, authority.ids, request, here)?;
             Ok(Outcome::Opens(here.node, entered))
         }
-        Place::AtName(dir, name) => make_asked(core, authority, request, dir, name),
+        Place::AtName(here, name) => make_asked(core, authority, request, here, name),
         Place::Elsewhere(retry) => Ok(Outcome::Retries(retry)),
         Place::Waits(node) => Ok(Outcome::Starts(node)),
     }

@@ -13,7 +13,7 @@ use crate::end::Outcome;
 use crate::retry::Onward;
 use bitflags::Flags;
 use hurd_core::{Core, NodeToMake};
-use hurd_creds::{Bytes, Errno, Ids, OpenFlags, ServerName, TaskId};
+use hurd_creds::{Bytes, Errno, Ids, OpenFlags, TaskId};
 use hurd_machine::{Lookup, RetryKind};
 use hurd_ports::{Parents, PendingStart};
 use hurd_trans_iface::{Server, Words};
@@ -30,7 +30,7 @@ pub(crate) struct FoundAt<'a, 'p> {
 #[derive(Debug, Drop)]
 pub(crate) enum Ready<'p> {
     Opens(NewPort),
-    Makes(ServerName, NodeToMake<'p>, Ids, Parents),
+    Makes(NodeToMake<'p>, Ids, Parents),
     /// How a name is looked up elsewhere, the name, and the port at which, if at one.
     Retries(RetryKind, Bytes, Option<NewPort>),
     /// What the task is to start, and the words that it is told.
@@ -46,7 +46,7 @@ impl<'p> FoundAt<'_, 'p> {
     {
         match &self.outcome {
             Outcome::Opens(_, _) => core.room(task, 1),
-            Outcome::Makes(_, _) => core.room(task, 2),
+            Outcome::Makes(_) => core.room(task, 2),
             Outcome::Retries(retry) => match retry.onward {
                 Onward::FromTop(_) => {
                     core.ids(task)?;
@@ -83,10 +83,10 @@ impl<'p> FoundAt<'_, 'p> {
             Outcome::Opens(node, entered) => {
                 Ok(Ready::Opens(authority.port(alloc, node, entered)?))
             }
-            Outcome::Makes(server, file) => {
+            Outcome::Makes(file) => {
                 let ids = authority.ids.copied(alloc)?;
                 let parents = authority.ways.copied(alloc)?;
-                Ok(Ready::Makes(server, file, ids, parents))
+                Ok(Ready::Makes(file, ids, parents))
             }
             Outcome::Retries(retry) => {
                 let name = retry.name(core, alloc)?;
@@ -116,14 +116,14 @@ impl Ready<'_> {
         task: TaskId,
         flags: OpenFlags,
     ) -> Result<Lookup, Errno>
-        requires { let w = world_of S.meaning core.old in IsReady w self × IsOk (ending_asks w task.0 (ready_of self)) }
+        requires { let w = world_of S.meaning core.old in IsReady w self × IsOk (ending_asks w task.0 (ready_of w self)) }
         ensures { let w = world_of S.meaning core.old in
-            Planned w (finding w task.0 flags (Ok (ready_of self.entry))) Found result (world_of S.meaning core.new) }
+            Planned w (finding w task.0 flags (Ok (ready_of w self.entry))) Found result (world_of S.meaning core.new) }
     {
         let modes = flags.open_modes();
         match self {
             Ready::Opens(port) => Ok(Lookup::Done(port.open(core, task, modes)?)),
-            Ready::Makes(_, file, ids, parents) => {
+            Ready::Makes(file, ids, parents) => {
                 let port = core.make_file(alloc, task, file, ids, parents, modes)?;
                 Ok(Lookup::Done(port))
             }

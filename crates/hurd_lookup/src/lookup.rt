@@ -65,7 +65,7 @@ fn sooner<'a, 'p, S: Server>(
     ensures { let w = world_of S.meaning core.now in FindsSooner w task.0 (found_of w found.entry) result }
 {
     match found.outcome {
-        Outcome::Opens(_, _) | Outcome::Makes(_, _) | Outcome::Retries(_) => Ok(found),
+        Outcome::Opens(_, _) | Outcome::Makes(_) | Outcome::Retries(_) => Ok(found),
         Outcome::Starts(node) => {
             let ids = core.ids(task)?;
             let first = first_unstarted(core, alloc, ids, node)?;

@@ -23,7 +23,7 @@ pub fn first_slash(path: &[u8]) -> usize
 }
 
 /// A path from its first name on.
-fn from_name(path: &[u8]) -> &[u8]
+pub(crate) fn from_name(path: &[u8]) -> &[u8]
     ensures { result.now ≡ from_name path.entry.now }
 {
     let mut rest = path;
@@ -55,11 +55,11 @@ pub(crate) fn ends_with_slash(path: &[u8]) -> bool
     }
 }
 
-/// Whether neither a path nor any of its names is too long.
+/// Whether neither a path nor any of its names is too long. In a path that is no longer than a name may be, none is.
 pub(crate) fn is_short(path: &[u8]) -> bool
     ensures { result ≡ is_short path.now }
 {
-    path.len() <= MOST_PATH && has_short_names(path)
+    path.len() <= MOST_NAME || (path.len() <= MOST_PATH && has_short_names(path))
 }
 
 /// Whether none of the names of a path is too long.

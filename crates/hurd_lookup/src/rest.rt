@@ -5,7 +5,7 @@ ghost use Rattle.hurd_lookup.specs.Path.{behind_slashes, joined, names_in, onto,
 ghost use Rattle.hurd_lookup.specs.Lookup.{is_last};
 ghost use Rattle.hurd_lookup.specs.Ends.{ending};
 
-use crate::path::first_name;
+use crate::path::{first_name, from_name};
 use hurd_creds::MOST_PATH;
 use std::alloc::{AllocError, Global};
 
@@ -13,7 +13,7 @@ use std::alloc::{AllocError, Global};
 pub(crate) fn is_last(path: &[u8]) -> bool
     ensures { result ≡ is_last (names_in path.now) }
 {
-    first_name(path).is_none()
+    from_name(path).is_empty()
 }
 
 /// Whether the names of a path, each behind a slash, have room in so many bytes.

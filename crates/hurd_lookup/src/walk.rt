@@ -1,15 +1,16 @@
 //! Going along the names of a path.
-ghost use Rattle.std.specs.Prelude.{◌≡◌, ◌∷◌};
+ghost use Rattle.std.specs.Prelude.{◌≡◌, ◌∷◌, ◌&&◌, not, Ok};
+ghost use Rattle.hurd_creds.specs.declared.errno.Errno.TheVariants.{EEXIST};
 ghost use Rattle.hurd_nodes.specs.Shown.{header_in};
 ghost use Rattle.hurd_machine.specs.World.{World, header_at};
-ghost use Rattle.hurd_machine.specs.Plan.{first};
+ghost use Rattle.hurd_machine.specs.Plan.{first, given};
 ghost use Rattle.hurd_core.specs.Core.{world_of};
 ghost use Rattle.hurd_lookup.specs.Path.{names_in};
-ghost use Rattle.hurd_lookup.specs.Lookup.{Authority as AuthorityAt, arrive, branch_in, came_in_at, go_back, go_into, is_exclusive, miss, over, shows_name, step_asks, step_by, step_up, stepped, to_cross, walk};
+ghost use Rattle.hurd_lookup.specs.Lookup.{Authority as AuthorityAt, arrive, branch_in, came_in_at, go_back, go_into, is_exclusive, is_last, miss, over, shows_name, step_asks, step_by, step_up, stepped, to_cross, walk};
 ghost use Rattle.hurd_lookup.specs.Ends.{CanGo, Finds, Goes, IsHere, authority_of, place_of};
 
 use crate::authority::Authority;
-use crate::cross::{Crossed, cross, to_cross};
+use crate::cross::{Met, cross, to_cross};
 use crate::here::Here;
 use crate::path::first_name;
 use crate::request::Request;
@@ -41,7 +42,7 @@ pub(crate) enum Place<'a> {
     /// A node that is opened: of a server that was entered by a way, if one was.
     AtNode(Here, Option<Parent>),
     /// A name in a directory, under which a file is to be made.
-    AtName(NodeName, &'a [u8]),
+    AtName(Here, &'a [u8]),
     /// A name that is looked up in another lookup.
     Elsewhere(Retry<'a>),
     /// A node on which a translator waits that is to be started first.
@@ -165,6 +166,17 @@ impl Request {
         self.flags.asks(OpenFlags::CREATE) && self.flags.asks(OpenFlags::EXCL)
     }
 
+    /// Past a node where something is to be crossed. `EEXIST`: it is the last, and a node that is there is refused.
+    #[tactic(auto, unfolding(hurd_machine::specs::Plan::given))]
+    fn passes(self, rest: &[u8]) -> Result<(), Errno>
+        ensures { result ≡ given EEXIST (not (is_last (names_in rest.now) && is_exclusive self)) (Ok tt) }
+    {
+        if is_last(rest) && self.is_exclusive() {
+            return Err(Errno::EEXIST);
+        }
+        Ok(())
+    }
+
     /// At the end of the names. `EEXIST`: a node that is there is refused.
     #[tactic(auto, unfolding(hurd_machine::specs::Plan::given))]
     fn arrive<'a>(self, here: Here) -> Result<Place<'a>, Errno>
@@ -178,11 +190,11 @@ impl Request {
 
     /// A name that no entry has. `ENOENT`: it is not the last, a directory is asked for, or `CREATE` is not.
     #[tactic(auto, unfolding(hurd_machine::specs::Plan::given))]
-    fn miss<'a>(self, dir: NodeName, name: &'a [u8], is_last: bool) -> Result<Place<'a>, Errno>
-        ensures { (w : World) (q : AuthorityAt) → Finds (place_of w q) (CanGo w q) (miss self dir name.entry.now is_last) result }
+    fn miss<'a>(self, here: Here, name: &'a [u8], is_last: bool) -> Result<Place<'a>, Errno>
+        ensures { (w : World) (q : AuthorityAt) → IsHere w here → Finds (place_of w q) (CanGo w q) (miss self here.node name.entry.now is_last) result }
     {
         if is_last && self.flags.asks(OpenFlags::CREATE) && !self.wants_dir {
-            Ok(Place::AtName(dir, name))
+            Ok(Place::AtName(here, name))
         } else {
             Err(Errno::ENOENT)
         }
@@ -230,19 +242,17 @@ fn over<'a, S: Server>(
     ensures { let w = world_of S.meaning core.now in let q = authority_of authority.entry in let names = names_in rest.entry.now in
         Goes w q (λ onward. over w q request dir node (to_cross w request node names) names (onward node)) result }
 {
-    let here = Here::at(core, node);
-    let Some(crossed) = to_cross(core, request, here, rest) else {
-        return Ok(Step::On(here));
-    };
-    if is_last(rest) && request.is_exclusive() {
-        return Err(Errno::EEXIST);
-    }
-    match crossed {
-        Crossed::Active(root) => {
+    match to_cross(core, request, node, rest) {
+        Met::Node(here) => Ok(Step::On(here)),
+        Met::Active(root) => {
+            request.passes(rest)?;
             let place = cross(core, authority, request, dir, root, rest)?;
             Ok(Step::To(place))
         }
-        Crossed::Waiting => Ok(Step::To(Place::Waits(node))),
+        Met::Waiting => {
+            request.passes(rest)?;
+            Ok(Step::To(Place::Waits(node)))
+        }
     }
 }
 
@@ -282,7 +292,7 @@ fn stepped<'a, S: Server>(
         Next::Entry(node) => over(core, authority, request, dir, node, rest),
         Next::Branch(branch) => Ok(Step::To(go_into(request, branch, path))),
         Next::Back => Ok(Step::To(go_back(core, authority, request, rest)?)),
-        Next::Absent => Ok(Step::To(request.miss(dir, name, is_last(rest))?)),
+        Next::Absent => Ok(Step::To(request.miss(here, name, is_last(rest))?)),
     }
 }
 

@@ -10,7 +10,7 @@ pub returns-in-Opens : goal.returns-in-Opens
 returns-in-Opens g c =
     elim c.in-Opens.is [
       | inl x ↦ (rw x.2 refl, c.requires)
-      | inr rest ↦ elim rest [ inl x ↦ (rw x.2 refl, c.requires) | inr x ↦ (rw x.1 refl, c.requires) ]
+      | inr rest ↦ elim rest [ inl x ↦ (rw x.1 refl, c.requires) | inr x ↦ (rw x.1 refl, c.requires) ]
     ]
 
 pub returns-in_err-ids-in-Starts : goal.returns-in_err-ids-in-Starts

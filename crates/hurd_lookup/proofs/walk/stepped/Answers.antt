@@ -15,7 +15,7 @@ returns-in_err-miss-in-Absent g c =
     let q = authority_of c.args.authority in
     let p = err_from_is_err_and c.from_residual-in_err-miss-in-Absent.result c.from_residual-in_err-miss-in-Absent.ensures.1 in
     let asked = rw c.in-Absent.is at c.in_ok-node.ensures in
-    let missed = rw c.is_last.ensures at (c.in_err-miss-in-Absent.ensures w q) in
+    let missed = rw c.is_last.ensures at (c.in_err-miss-in-Absent.ensures w q c.requires.here) in
     rw (p.1, p.2) (λ onward. step_is w q c.args.request c.args.here.node c.args.name.now (names_in c.args.rest.now) Absent asked onward ∙ missed)
 
 pub returns-in_ok-miss-in-Absent : goal.returns-in_ok-miss-in-Absent
@@ -23,7 +23,7 @@ returns-in_ok-miss-in-Absent g c =
     let w = world_of g.S.Server.meaning c.args.core.now in
     let q = authority_of c.args.authority in
     let asked = rw c.in-Absent.is at c.in_ok-node.ensures in
-    let missed = rw c.is_last.ensures at (c.in_ok-miss-in-Absent.ensures w q) in
+    let missed = rw c.is_last.ensures at (c.in_ok-miss-in-Absent.ensures w q c.requires.here) in
     (λ onward. step_is w q c.args.request c.args.here.node c.args.name.now (names_in c.args.rest.now) Absent asked onward ∙ missed.0, missed.1)
 
 pub returns-in-Branch : goal.returns-in-Branch

@@ -3,7 +3,7 @@ use Rattle.std.specs.Prelude.{Ok, Err}
 use Rattle.std.proofs.lemmas.Result.{err_from_is_err_and}
 use Rattle.hurd_core.specs.Core.{world_of}
 use Rattle.hurd_core.specs.ToMake.{new_node_of}
-use Rattle.hurd_lookup.specs.Ends.{port_of}
+use Rattle.hurd_lookup.specs.Ends.{maker, port_of}
 use Rattle.hurd_lookup.proofs.DoneLaws.{made, opened, started}
 use Rattle.hurd_lookup.proofs.found.Ready.done.Goals as goal
 
@@ -18,7 +18,7 @@ returns-in_err-port-in-Makes g c =
     let p = err_from_is_err_and c.from_residual-in_err-port-in-Makes.result c.from_residual-in_err-port-in-Makes.ensures.1 in
     let ok = rw c.in-Makes.is at c.requires in
     rw (p.1, p.2, c.in-Makes.is)
-    (made (world_of g.S.Server.meaning c.args.core.now) c.args.task.0 c.args.flags c.in-Makes.field-0 (new_node_of c.in-Makes.file) c.in-Makes.ids c.in-Makes.parents ok.0 ok.1 (Err _) _ c.in_err-port-in-Makes.ensures)
+    (made (world_of g.S.Server.meaning c.args.core.now) c.args.task.0 c.args.flags (maker (world_of g.S.Server.meaning c.args.core.now) c.in-Makes.file.dir) (new_node_of c.in-Makes.file) c.in-Makes.ids c.in-Makes.parents ok.0 ok.1 (Err _) _ c.in_err-port-in-Makes.ensures)
 
 pub returns-in_ok-open-in-Opens : goal.returns-in_ok-open-in-Opens
 returns-in_ok-open-in-Opens g c =
@@ -31,7 +31,7 @@ returns-in_ok-port-in-Makes g c =
     let ok = rw c.in-Makes.is at c.requires in
     let does = rw c.open_modes-modes.ensures at c.in_ok-port-in-Makes.ensures in
     rw c.in-Makes.is
-    (made (world_of g.S.Server.meaning c.args.core.now) c.args.task.0 c.args.flags c.in-Makes.field-0 (new_node_of c.in-Makes.file) c.in-Makes.ids c.in-Makes.parents ok.0 ok.1 (Ok _) _ does)
+    (made (world_of g.S.Server.meaning c.args.core.now) c.args.task.0 c.args.flags (maker (world_of g.S.Server.meaning c.args.core.now) c.in-Makes.file.dir) (new_node_of c.in-Makes.file) c.in-Makes.ids c.in-Makes.parents ok.0 ok.1 (Ok _) _ does)
 
 pub returns-in_err-pend-in-Starts : goal.returns-in_err-pend-in-Starts
 returns-in_err-pend-in-Starts g c =
