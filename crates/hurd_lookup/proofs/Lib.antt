@@ -22,3 +22,4 @@ pub mod StepLaws
 pub mod DoneLaws
 pub mod SeekingLaws
 pub mod Touching
+pub mod TouchingLaws

@@ -22,6 +22,7 @@ mod request;
 pub mod resolve;
 mod rest;
 mod retry;
+pub mod touches;
 mod walk;
 
 pub use path::first_slash;
