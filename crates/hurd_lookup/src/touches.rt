@@ -46,7 +46,7 @@ fn by_outcome(outcome: Outcome) -> Touching
 {
     match outcome {
         Outcome::Opens(node, _) => Touching::Opens(node),
-        Outcome::Makes(_, file) => Touching::Makes(file.dir),
+        Outcome::Makes(file) => Touching::Makes(file.dir),
         Outcome::Retries(retry) => by_onward(retry.onward),
         Outcome::Starts(_) => Touching::Nothing,
     }
