@@ -6,3 +6,4 @@ pub mod OneLesson
 pub mod EntryLaws
 pub mod SeatLaws
 pub mod InSentences
+pub mod NothingLaws
