@@ -213,6 +213,11 @@ pub among_one : (k : ℕ) (w : World) (ids : IdSets) (n : Name) → 0 < k → fi
 among_one zero w ids n more = absurd (omega (arith, more))
 among_one (suc k) w ids n more = let same : k ≡ suc k - 1 = omega arith in ap (λ (j : ℕ). or_needed n (first_among j w ids) (needed w ids n)) same
 
+-- where there are no targets, none is needed
+pub needed_none : (w : World) (ids : IdSets) (n : Name) (paths : List (List ℕ)) → paths ≡ words_aims (words_at w n) → length paths ≡ 0 → needed w ids n ≡ None
+needed_none w ids n [] is none = ap (first_asleep w (lent_at w ids n)) (sym is)
+needed_none w ids n (path ∷ paths) is none = absurd (omega (arith, none))
+
 -- where a node is needed, there are targets
 pub needed_has : (w : World) (ids : IdSets) (paths : List (List ℕ)) (m : Name) → first_asleep w ids paths ≡ Some m → paths ≢ []
 needed_has w ids [] m is none = absurd (cc (is))

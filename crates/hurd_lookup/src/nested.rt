@@ -92,7 +92,9 @@ fn first_asleep<S: Server>(
     }
 }
 
-/// The node whose translator is to be started before the one that waits on this node, if there is one. `ENOMEM`, not where the words have no targets.
+/// The node whose translator is to be started before the one that waits on this node, if there is one. Where the words have no targets, the node isn't asked whose it is.
+///
+/// `ENOMEM`, not where the words have no targets.
 fn needed<S: Server>(
     core: &Core<S>,
     alloc: Global,
@@ -101,11 +103,15 @@ fn needed<S: Server>(
 ) -> Result<Option<NodeName>, Errno>
     ensures { let w = world_of S.meaning core.now in FindsAsleep w (words_aims (words_at w node)) (needed w ids.now node) result }
 {
+    let paths = aims(words_at(core, node));
+    if paths.is_empty() {
+        return Ok(None);
+    }
     let Some(attrs) = core.attrs(node) else {
         return Ok(None);
     };
     let own = lent(alloc, ids, attrs.owner)?;
-    first_asleep(core, alloc, &own, aims(words_at(core, node)))
+    first_asleep(core, alloc, &own, paths)
 }
 
 /// The node whose translator is to be started first by a task with these ids, that the one that waits on this node can be started: one at which the targets of its words end,
