@@ -1,6 +1,7 @@
 //! Reading a list, and beginning the world of its tasks.
 ghost use Rattle.std.specs.Prelude.{◌≡◌, Ok, Err, IfErr, IfOk};
 ghost use Rattle.hurd_tmpfs.specs.Tree.{new_tmpfs};
+ghost use Rattle.hurd_machine.specs.Sound.{Sound};
 ghost use Rattle.hurd_world.specs.Boot.{boot_of, first_world};
 ghost use Rattle.hurd_world.specs.Held.{world_of};
 ghost use Rattle.hurd_kinds.specs.Boxes.{box_meaning};
@@ -24,6 +25,7 @@ pub fn begun<S: Server>(alloc: Global, root: S, tasks: Vec<Ids>) -> Result<Box<W
     requires { S.meaning root ≡ new_tmpfs }
     ensures ok { IfOk result (λ world. (boot_of new_tmpfs tasks.items ≡ Ok tt) × (world_of S.meaning world.value ≡ first_world new_tmpfs tasks.items)) }
     ensures err { IfErr result (λ fault. NotBegun new_tmpfs tasks.items fault) }
+    ensures sound { IfOk result (λ world. Sound (world_of S.meaning world.value)) }
 {
     match World::boot(alloc, root, tasks) {
         Ok(world) => Ok(boxed(alloc, world)?),

@@ -10,7 +10,7 @@ use hurd_dialogue::{Telling, boxed};
 use hurd_kinds::{ServerBox, empty_tree};
 use hurd_lists::{CallList, ListedCall};
 use hurd_terminal::Fault;
-use hurd_world::World;
+use hurd_world::{Noted, World};
 use std::alloc::{AllocError, Global};
 use std::collections::VecDeque;
 
@@ -49,6 +49,8 @@ impl Telling for RunningCalls {
 
     ghost way = { λ c. way_of c.world.value c.calls.items c.told c.tasks };
 
+    ghost noted = { λ c. c.world.value.noted };
+
     #[tactic(auto, unfolding(hurd_kinds::specs::Boxes::box_meaning))]
     fn begun(alloc: Global, text: &[u8]) -> Result<Box<RunningCalls>, Fault> {
         let CallList { tasks, calls } = parsed(alloc, text)?;
@@ -71,6 +73,14 @@ impl Telling for RunningCalls {
         self.told += 1;
         let server = brought(alloc, &listed.server)?;
         Ok(Some(part(&mut self.world, alloc, listed, server)?))
+    }
+
+    fn note(&mut self) {
+        self.world.note();
+    }
+
+    fn noted(&self) -> &Noted {
+        self.world.noted()
     }
 
     fn task(&self) -> Option<TaskId> {

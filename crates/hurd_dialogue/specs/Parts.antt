@@ -2,6 +2,8 @@
 use Rattle.std.specs.Prelude.{◌≡◌, ℕ, ◌+◌, List, [], ◌∷◌, Option, Some, None, map}
 use Rattle.std.specs.List.{concat}
 use Rattle.hurd_machine.specs.World.{World}
+use Rattle.hurd_touches.specs.declared.noted.Noted.{Noted}
+use Rattle.hurd_world.specs.Noting.{State}
 
 -- a part that is told: of what which task did, what stands in the output, and the world behind it
 pub record Part : Type 0 where
@@ -36,6 +38,10 @@ pub record Way : Type 0 where
   pub heading : ℕ
   pub names : List (List ℕ)
   pub finds : List ℕ → Option ℕ
+
+-- its world, with the parts that are noted
+abbrev pub standing : Way → Noted → State
+standing way noted = record { world = way.world; noted = noted }
 
 -- the next part was told, and this is its text; or there is none, and nothing changed
 abbrev pub Goes : Way → Option (List ℕ) → Way → Type 0

@@ -1,16 +1,19 @@
 //! A text on its way.
-ghost use Rattle.std.specs.Prelude.{◌≡◌, IfErr, IfOk, map, string_bytes};
+ghost use Rattle.std.specs.Prelude.{◌≡◌, IfErr, IfOk, OnOk, map, string_bytes};
 ghost use Rattle.std.specs.Option.{option_map};
 ghost use Rattle.hurd_creds.specs.declared.name.TaskId.{TaskId};
 ghost use Rattle.hurd_kinds.specs.Boxes.{box_meaning};
+ghost use Rattle.hurd_machine.specs.Sound.{Sound};
+ghost use Rattle.hurd_touches.specs.declared.noted.Noted.{Noted};
 ghost use Rattle.hurd_world.specs.Held.{world_of};
-ghost use Rattle.hurd_dialogue.specs.Parts.{Goes, Way, next_task};
+ghost use Rattle.hurd_world.specs.Noting.{Stays};
+ghost use Rattle.hurd_dialogue.specs.Parts.{Goes, Way, next_task, standing};
 ghost use Rattle.hurd_dialogue.specs.Sorts.{Begins, NotBegun, Sort};
 
 use hurd_creds::{Bytes, TaskId};
 use hurd_kinds::ServerBox;
 use hurd_terminal::Fault;
-use hurd_world::World;
+use hurd_world::{Noted, World};
 use std::alloc::{AllocError, Global};
 
 /// A text on its way through a world of its own, begun over an empty tree in memory, with the servers that its words make.
@@ -21,16 +24,29 @@ pub trait Telling: Drop {
     // How far it is.
     ghost way: { Self → Way };
 
+    // The parts that calls touched since these were to be noted.
+    ghost noted: { Self → Noted };
+
     /// Begins a text.
     ///
     /// Errors, in order: `Bad` with the line at which it is bad, `Boot` with its world's refusal; `Memory` at any point.
     fn begun(alloc: Global, text: &[u8]) -> Result<Box<Self>, Fault>
         ensures ok { IfOk result (λ telling. Begins sort text.now (way telling.value)) }
+        ensures sound { IfOk result (λ telling. Sound (way telling.value).world) }
         ensures err { IfErr result (λ fault. NotBegun sort text.now fault) };
 
     /// The next part; none where all were told, and then nothing changes. An error is want of memory: the part is lost, and the text is to be dropped.
     fn next(&mut self, alloc: Global) -> Result<Option<Bytes>, AllocError>
-        ensures { IfOk result (λ part. Goes (way self.old) part (way self.new)) };
+        ensures goes { IfOk result (λ part. Goes (way self.old) part (way self.new)) }
+        ensures noted { OnOk result (Stays (standing (way self.old) (noted self.old)) (standing (way self.new) (noted self.new))) };
+
+    /// Notes from now on which parts calls touch.
+    fn note(&mut self)
+        ensures { way self.new ≡ way self.old };
+
+    /// The parts that calls touched since `note`, or any.
+    fn noted(&self) -> &Noted
+        ensures { result.now ≡ noted self.now };
 
     /// The task of the next part; none where all were told.
     fn task(&self) -> Option<TaskId>

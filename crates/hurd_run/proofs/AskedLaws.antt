@@ -11,6 +11,9 @@ use Rattle.hurd_script.specs.Commands.{CommandLine}
 use Rattle.hurd_shell.specs.Session.{Answers, Takes, TakesUnlessFailed, Tells, View, has_failed, left_in, next_task, waits_for}
 use Rattle.hurd_shell.specs.Transcript.{AsksFor, Dialogue, Maker, ends, tells, wants, told_by}
 use Rattle.hurd_shell.specs.declared.session.Want.TheVariants.{Done, Output, Server}
+use Rattle.hurd_world.specs.Held.{state_of}
+use Rattle.hurd_world.specs.Noting.{Stays}
+use Rattle.hurd_world.proofs.NotingLaws.{stays_refl, stays_trans}
 use Rattle.hurd_run.specs.Scripts.{way_of}
 use Rattle.hurd_run.proofs.WayLaws.{task_next}
 
@@ -57,11 +60,12 @@ fewer_by : (q : Bool) (n : ℕ) → turns_by q n < suc (suc n)
 fewer_by true n = omega arith
 fewer_by false n = omega arith
 
--- unless memory was refused, a session has still to tell what it had, and told no more
+-- unless memory was refused, a session has still to tell what it had, and told no more; what is noted stays right
 pub record Asking (start s : View ServerBox) : Type 0 where
   pub left : has_failed s ≡ false → told_by begin (left_in box_meaning s) ≡ told_by begin (left_in box_meaning start)
   pub given : has_failed s ≡ false → s.given ≡ start.given
   pub idle : has_failed s ≡ false → next_task s ≡ None → s ≡ start
+  pub noted : has_failed s ≡ false → Stays (state_of box_meaning start.world) (state_of box_meaning s.world)
 
 -- who waits for a server has a command on its way
 got_some : (cs : List CommandLine) (n : ℕ) → n < length cs → option_map (λ (c : CommandLine). c.task) (slice_get cs n) ≡ None → ⊥
@@ -73,7 +77,7 @@ waits_next : (s : View ServerBox) → waits_for s ≡ true → next_task s ≡ N
 waits_next s waits none = got_some s.commands s.given (ltb-true _ _ (and_parts _ _ waits).1) none
 
 pub asking_none : (s : View ServerBox) → Asking s s
-asking_none s = record { left = λ _. refl; given = λ _. refl; idle = λ _ _. refl }
+asking_none s = record { left = λ _. refl; given = λ _. refl; idle = λ _ _. refl; noted = λ _. stays_refl _ }
 
 module _ (start s x : View ServerBox) (so : Asking start s) (fine : has_failed s ≡ false) where
   -- a part was told
@@ -106,13 +110,14 @@ module _ (start s x : View ServerBox) (so : Asking start s) (fine : has_failed s
       took_fine : has_failed u ≡ false → Takes box_meaning x (option_map box_meaning server) u
       took_fine still = elim takes [ inl failed ↦ absurd (let no = failed in cc) | inr took ↦ took ]
 
-      pub asked_more : Asking start u
-      asked_more = record {
+      pub asked_more : Stays (state_of box_meaning s.world) (state_of box_meaning x.world) → (has_failed u ≡ false → Stays (state_of box_meaning x.world) (state_of box_meaning u.world)) → Asking start u
+      asked_more first next = record {
         left = λ still.
             sym (answered_told begin (left_in box_meaning x) (left_in box_meaning u) words asks (answers (took_fine still)))
             ∙ (ap (told_by begin) wish.0 ∙ so.left fine);
         given = λ still. (took_fine still).5 ∙ (wish.5 ∙ so.given fine);
         idle = λ still none. absurd (waits_next x asked_waits (sym (took_fine still).4 ∙ none));
+        noted = λ still. stays_trans (so.noted fine) (stays_trans first (next still));
       }
 
       was : turns_left s ≡ suc (wants_by begin (left_in box_meaning x))

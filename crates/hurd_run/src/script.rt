@@ -10,7 +10,7 @@ use hurd_script::Script;
 use hurd_shell::Session;
 use hurd_terminal::Fault;
 use hurd_words::users::task_of;
-use hurd_world::World;
+use hurd_world::{Noted, World};
 use std::alloc::{AllocError, Global};
 
 /// A script on its way, begun over an empty tree in memory, with the names of its users.
@@ -25,6 +25,8 @@ impl Telling for RunningScript {
     ghost sort = { scripts };
 
     ghost way = { λ s. way_of s.session.value (map string_bytes s.names.items) };
+
+    ghost noted = { λ s. s.session.value.world.noted };
 
     #[tactic(auto, unfolding(hurd_kinds::specs::Boxes::box_meaning))]
     fn begun(alloc: Global, text: &[u8]) -> Result<Box<RunningScript>, Fault> {
@@ -45,6 +47,14 @@ impl Telling for RunningScript {
 
     fn next(&mut self, alloc: Global) -> Result<Option<Bytes>, AllocError> {
         next_part(alloc, &mut self.session)
+    }
+
+    fn note(&mut self) {
+        self.session.note();
+    }
+
+    fn noted(&self) -> &Noted {
+        self.session.world().noted()
     }
 
     fn task(&self) -> Option<TaskId> {

@@ -1,10 +1,13 @@
 //! A session whose servers are made of the words that it asks for.
-ghost use Rattle.std.specs.Prelude.{◌≡◌, ◌≤◌, ℕ, None, Ok, IfErr, IfOk, List, length, map, string_bytes};
+ghost use Rattle.std.specs.Prelude.{◌≡◌, ◌≤◌, ℕ, None, Ok, IfErr, IfOk, OnOk, List, length, map, string_bytes};
 ghost use Rattle.hurd_tmpfs.specs.Tree.{new_tmpfs};
 ghost use Rattle.hurd_script.specs.Flaws.{FaultOf};
 ghost use Rattle.hurd_script.specs.Script.{bad, commands_of, names_of, users_of};
 ghost use Rattle.hurd_shell.specs.Session.{BegunWith};
+ghost use Rattle.hurd_kinds.specs.Boxes.{box_meaning};
 ghost use Rattle.hurd_world.specs.Boot.{boot_of};
+ghost use Rattle.hurd_world.specs.Held.{state_of};
+ghost use Rattle.hurd_world.specs.Noting.{Stays};
 ghost use Rattle.hurd_dialogue.specs.Parts.{Goes};
 ghost use Rattle.hurd_run.specs.Faults.{NotBooted, NotRead};
 ghost use Rattle.hurd_run.specs.Scripts.{scripts, way_of};
@@ -80,7 +83,8 @@ pub(crate) fn next_part(
     alloc: Global,
     session: &mut Session<ServerBox>,
 ) -> Result<Option<Bytes>, AllocError>
-    ensures { IfOk result (λ part. (names : List (List ℕ)) → Goes (way_of session.old names) part (way_of session.new names)) }
+    ensures goes { IfOk result (λ part. (names : List (List ℕ)) → Goes (way_of session.old names) part (way_of session.new names)) }
+    ensures noted { OnOk result (Stays (state_of box_meaning session.old.world) (state_of box_meaning session.new.world)) }
 {
     'asked: loop {
         match session.next(alloc) {

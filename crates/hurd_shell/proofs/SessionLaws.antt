@@ -9,7 +9,8 @@ use Rattle.hurd_trans_iface.specs.Meaning.{Meaning}
 use Rattle.hurd_machine.specs.World.{World}
 use Rattle.hurd_machine.specs.Sound.{Sound}
 use Rattle.hurd_laws.specs.Step.{reply_of, after}
-use Rattle.hurd_world.specs.Held.{Whole, world_of}
+use Rattle.hurd_world.specs.Held.{Whole, state_of, world_of}
+use Rattle.hurd_world.specs.Noting.{State, Stays}
 use Rattle.hurd_script.specs.Commands.{CommandLine}
 use Rattle.hurd_shell.specs.declared.commands.Printed.{Printed}
 use Rattle.hurd_shell.specs.declared.fault.Stop.{Stop}
@@ -42,9 +43,9 @@ played_goes t (calls c k) w next = played_goes t (k (reply_of w t c)) (after w t
 played_goes t (asks words k) w next = refl
 
 -- a program that comes to another tells what that tells
-pub leads_played : {A : Type 0} {t : ℕ} {p q : Prog A} {w x : World} (next : Result A Errno → World → Dialogue) → Leads t p w q x → played t p w next ≡ played t q x next
+pub leads_played : {A : Type 0} {t : ℕ} {p q : Prog A} {w x : State} (next : Result A Errno → World → Dialogue) → Leads t p w q x → played t p w.world next ≡ played t q x.world next
 leads_played {A} {t} {p} {q} {w} {x} next l =
-    played_goes t p w next ∙ (ap (λ (z : Pause A). played t z.rest z.world next) l.goes ∙ sym (played_goes t q x next))
+    played_goes t p w.world next ∙ (ap (λ (z : Pause A). played t z.rest z.world next) l.goes ∙ sym (played_goes t q x.world next))
 
 played_gives : {A : Type 0} (t : ℕ) (r : Result A Errno) (w : World) (next : Result A Errno → World → Dialogue) → played t (gives r) w next ≡ next r w
 unfolding played
@@ -54,15 +55,15 @@ played_gives t r w next = refl
 abbrev behind : CommandLine → (World → Dialogue) → Result Printed Errno → World → Dialogue
 behind c next r x = tells (part_by c (part_of c r) x) (next x)
 
-ended : (c : CommandLine) (p : Prog Printed) (w x : World) (r : Result Printed Errno) (turn : Turn) (next : World → Dialogue)
-    → Leads c.task p w (gives r) x → Some turn ≡ Some (Told (part_of c r)) → played c.task p w (behind c next) ≡ turn_on c next turn x
+ended : (c : CommandLine) (p : Prog Printed) (w x : State) (r : Result Printed Errno) (turn : Turn) (next : World → Dialogue)
+    → Leads c.task p w (gives r) x → Some turn ≡ Some (Told (part_of c r)) → played c.task p w.world (behind c next) ≡ turn_on c next turn x.world
 ended c p w x r turn next l same =
     let told : turn ≡ Told (part_of c r) = cc in
-    rw told (leads_played (behind c next) l ∙ played_gives c.task r x (behind c next))
+    rw told (leads_played (behind c next) l ∙ played_gives c.task r x.world (behind c next))
 
 -- a command that came to its end, or waits for a server, tells what is left to tell after that turn
-pub turned : (c : CommandLine) (p : Prog Printed) (w x : World) (r : Result Progress Stop) (turn : Turn) → Reaches c.task p w progress_on r x → Some turn ≡ turn_of c r
-    → (next : World → Dialogue) → played c.task p w (λ r y. tells (part_by c (part_of c r) y) (next y)) ≡ turn_on c next turn x
+pub turned : (c : CommandLine) (p : Prog Printed) (w x : State) (r : Result Progress Stop) (turn : Turn) → Reaches c.task p w progress_on r x → Some turn ≡ turn_of c r
+    → (next : World → Dialogue) → played c.task p w.world (λ r y. tells (part_by c (part_of c r) y) (next y)) ≡ turn_on c next turn x.world
 turned c p w x (Ok (Ended printed)) turn d same next = ended c p w x (Ok printed) turn next d.reaches same
 turned c p w x (Ok (progress.Waits waiting)) turn d same next =
     let waits : turn ≡ Waits waiting = cc in
@@ -71,12 +72,19 @@ turned c p w x (Err (Refused e)) turn d same next = ended c p w x (Err e) turn n
 turned c p w x (Err Memory) turn d same next = absurd (cc)
 
 -- and its world hangs together
-pub turned_sound : (c : CommandLine) (p : Prog Printed) (w x : World) (r : Result Progress Stop) (turn : Turn) → Reaches c.task p w progress_on r x → Some turn ≡ turn_of c r
-    → Sound w → Sound x
+pub turned_sound : (c : CommandLine) (p : Prog Printed) (w x : State) (r : Result Progress Stop) (turn : Turn) → Reaches c.task p w progress_on r x → Some turn ≡ turn_of c r
+    → Sound w.world → Sound x.world
 turned_sound c p w x (Ok (Ended printed)) turn d same s = stop_sound (go-gives _ _ _) d.reaches s
 turned_sound c p w x (Ok (progress.Waits waiting)) turn d same s = stop_sound (go-asks _ _ _ _) d.reaches s
 turned_sound c p w x (Err (Refused e)) turn d same s = stop_sound (go-gives _ _ _) d.reaches s
 turned_sound c p w x (Err Memory) turn d same s = absurd (cc)
+
+-- and what is noted stays right
+turned_stays : (c : CommandLine) (p : Prog Printed) (w x : State) (r : Result Progress Stop) (turn : Turn) → Reaches c.task p w progress_on r x → Some turn ≡ turn_of c r → Stays w x
+turned_stays c p w x (Ok (Ended printed)) turn d same = d.reaches.stays
+turned_stays c p w x (Ok (progress.Waits waiting)) turn d same = d.reaches.stays
+turned_stays c p w x (Err (Refused e)) turn d same = d.reaches.stays
+turned_stays c p w x (Err Memory) turn d same = absurd (cc)
 
 one_more : (k : ℕ) → k + 1 ≡ suc k
 one_more k = omega arith
@@ -125,16 +133,16 @@ pub waits_asks : (c : CommandLine) (next : World → Dialogue) (waiting : Waitin
 unfolding played
 waits_asks c next waiting x = refl
 
-bind_leads : {A B : Type 0} {t : ℕ} {p q : Prog A} {w x : World} (k : A → Prog B) → Leads t p w q x → Leads t (bind p k) w (bind q k) x
+bind_leads : {A B : Type 0} {t : ℕ} {p q : Prog A} {w x : State} (k : A → Prog B) → Leads t p w q x → Leads t (bind p k) w (bind q k) x
 unfolding bind
 bind_leads k l = tried_leads (on_ok k) l
 
-behind_leads : {t : ℕ} {w x : World} (stage : Stage) (p q : Prog (Unit {0})) → Leads t p w q x → Leads t (stage_behind stage p) w (stage_behind stage q) x
+behind_leads : {t : ℕ} {w x : State} (stage : Stage) (p q : Prog (Unit {0})) → Leads t p w q x → Leads t (stage_behind stage p) w (stage_behind stage q) x
 behind_leads (Opens o work) p q l = bind_leads _ (held_leads o.held.items (bind_leads _ l))
 behind_leads (Enters port o name work) p q l = tried_leads _ (bind_leads _ (held_leads o.held.items (bind_leads _ l)))
 behind_leads (Sets port setting) p q l = tried_leads _ (bind_leads _ l)
 
-does_leads : {A : Type 0} {t : ℕ} {p : Prog A} {w x : World} (answer : Result A Errno) → Does t p w (stopped answer) x → Leads t p w (gives answer) x
+does_leads : {A : Type 0} {t : ℕ} {p : Prog A} {w x : State} (answer : Result A Errno) → Does t p w (stopped answer) x → Leads t p w (gives answer) x
 does_leads (Ok a) d = d.ends
 does_leads (Err e) d = d.ends
 
@@ -144,33 +152,33 @@ answers_wanted : (c : CommandLine) (next : Result Printed Errno → World → Di
 unfolding played
 answers_wanted c next waiting server w left same = same
 
-answered_left : (c : CommandLine) (ds : List CommandLine) (waiting : Waiting) (server : Option Meaning) (stage : Stage) (answer : Result (Unit {0}) Errno) (w x : World)
+answered_left : (c : CommandLine) (ds : List CommandLine) (waiting : Waiting) (server : Option Meaning) (stage : Stage) (answer : Result (Unit {0}) Errno) (w x : State)
     → stage ≡ waiting.stage → Does c.task (answer_with waiting.stage waiting.words server) w (stopped answer) x
-    → Answers (left_of (phase.Waiting waiting) (c ∷ ds) w) server (left_of (phase.Answered stage answer) (c ∷ ds) x)
+    → Answers (left_of (phase.Waiting waiting) (c ∷ ds) w.world) server (left_of (phase.Answered stage answer) (c ∷ ds) x.world)
 answered_left c ds waiting server stage answer w x same d =
     rw same
-    (answers_wanted c (behind c (dialogue ds)) waiting server w _
+    (answers_wanted c (behind c (dialogue ds)) waiting server w.world _
     (sym (leads_played (behind c (dialogue ds)) (behind_leads waiting.stage _ (gives answer) (does_leads answer d)))))
 
 -- a session that was answered has to tell what follows the answer
-pub answered : (cs : List CommandLine) (k : ℕ) (c : CommandLine) (waiting : Waiting) (server : Option Meaning) (stage : Stage) (answer : Result (Unit {0}) Errno) (w x : World)
+pub answered : (cs : List CommandLine) (k : ℕ) (c : CommandLine) (waiting : Waiting) (server : Option Meaning) (stage : Stage) (answer : Result (Unit {0}) Errno) (w x : State)
     → k < length cs → c ≡ get_or cs k c → stage ≡ waiting.stage → Does c.task (answer_with waiting.stage waiting.words server) w (stopped answer) x
-    → Answers (left_of (phase.Waiting waiting) (drop k cs) w) server (left_of (phase.Answered stage answer) (drop k cs) x)
+    → Answers (left_of (phase.Waiting waiting) (drop k cs) w.world) server (left_of (phase.Answered stage answer) (drop k cs) x.world)
 answered cs k c waiting server stage answer w x within here same d =
-    subst (λ (ds : List CommandLine). Answers (left_of (phase.Waiting waiting) ds w) server (left_of (phase.Answered stage answer) ds x)) (sym (at_command cs k c within here))
+    subst (λ (ds : List CommandLine). Answers (left_of (phase.Waiting waiting) ds w.world) server (left_of (phase.Answered stage answer) ds x.world)) (sym (at_command cs k c within here))
     (answered_left c (drop (k + 1) cs) waiting server stage answer w x same d)
 
 -- a session that waited for a server takes an answer
 pub took : {S : Type 0} (f : S → Meaning) (world left : Whole S) (commands : List CommandLine) (given : ℕ) (at : Phase) (c : CommandLine) (waiting : Waiting)
     (server : Option Meaning) (stage : Stage) (answer : Result (Unit {0}) Errno)
     → at ≡ phase.Waiting waiting → (waits_by at && nat_lt given (length commands)) ≡ true → c ≡ get_or commands given c → stage ≡ waiting.stage
-    → Does c.task (answer_with waiting.stage waiting.words server) (world_of f world) (stopped answer) (world_of f left)
+    → Does c.task (answer_with waiting.stage waiting.words server) (state_of f world) (stopped answer) (state_of f left)
     → Takes f (record { world = world; commands = commands; given = given; phase = at }) server
     (record { world = left; commands = commands; given = given; phase = phase.Answered stage answer })
 took f world left commands given at c waiting server stage answer is waits here same d =
     let within : given < length commands = ltb-true _ _ (and_parts _ _ waits).1 in (
       subst (λ (q : Phase). Answers (left_of q (drop given commands) (world_of f world)) server (left_of (phase.Answered stage answer) (drop given commands) (world_of f left))) (sym is)
-          (answered commands given c waiting server stage answer _ _ within here same d),
+          (answered commands given c waiting server stage answer (state_of f world) (state_of f left) within here same d),
       waits,
       refl,
       refl,
@@ -181,22 +189,31 @@ took f world left commands given at c waiting server stage answer is waits here 
 -- and its world hangs together
 pub took_sound : {S : Type 0} (f : S → Meaning) (world left : Whole S) (commands : List CommandLine) (given : ℕ) (at : Phase) (t : ℕ) (waiting : Waiting)
     (server : Option Meaning) (stage : Stage) (answer : Result (Unit {0}) Errno)
-    → at ≡ phase.Waiting waiting → Does t (answer_with waiting.stage waiting.words server) (world_of f world) (stopped answer) (world_of f left)
+    → at ≡ phase.Waiting waiting → Does t (answer_with waiting.stage waiting.words server) (state_of f world) (stopped answer) (state_of f left)
     → HangsTogether f (record { world = world; commands = commands; given = given; phase = at })
     → HangsTogether f (record { world = left; commands = commands; given = given; phase = phase.Answered stage answer })
 took_sound f world left commands given at t waiting server stage answer is d hangs = λ fine. does_sound answer d (hangs (ap is_failed is))
 
 -- what is told of a command that came to its end, or waits for a server, unless memory was refused
-pub told_turn : {E : Type 0} (c : CommandLine) (p : Prog Printed) (w x : World) (r : Result Progress Stop) (told : Result Turn E) → Reaches c.task p w progress_on r x
+pub told_turn : {E : Type 0} (c : CommandLine) (p : Prog Printed) (w x : State) (r : Result Progress Stop) (told : Result Turn E) → Reaches c.task p w progress_on r x
     → IfOk told (λ turn. Some turn ≡ turn_of c r)
-    → IfOk told (λ turn. (next : World → Dialogue) → played c.task p w (λ r y. tells (part_by c (part_of c r) y) (next y)) ≡ turn_on c next turn x)
+    → IfOk told (λ turn. (next : World → Dialogue) → played c.task p w.world (λ r y. tells (part_by c (part_of c r) y) (next y)) ≡ turn_on c next turn x.world)
 told_turn c p w x r (Ok turn) d same = turned c p w x r turn d same
 told_turn c p w x r (Err e) d same = tt
 
-pub told_sound : {E : Type 0} (c : CommandLine) (p : Prog Printed) (w x : World) (r : Result Progress Stop) (told : Result Turn E) → Reaches c.task p w progress_on r x
-    → IfOk told (λ turn. Some turn ≡ turn_of c r) → Sound w → OnOk told (Sound x)
+pub told_sound : {E : Type 0} (c : CommandLine) (p : Prog Printed) (w x : State) (r : Result Progress Stop) (told : Result Turn E) → Reaches c.task p w progress_on r x
+    → IfOk told (λ turn. Some turn ≡ turn_of c r) → Sound w.world → OnOk told (Sound x.world)
 told_sound c p w x r (Ok turn) d same s = turned_sound c p w x r turn d same s
 told_sound c p w x r (Err e) d same s = tt
+
+pub told_stays : {E : Type 0} (c : CommandLine) (p : Prog Printed) (w x : State) (r : Result Progress Stop) (told : Result Turn E) → Reaches c.task p w progress_on r x
+    → IfOk told (λ turn. Some turn ≡ turn_of c r) → OnOk told (Stays w x)
+told_stays c p w x r (Ok turn) d same = turned_stays c p w x r turn d same
+told_stays c p w x r (Err e) d same = tt
+
+-- and so it does where an answer was taken
+pub took_stays : {A : Type 0} {t : ℕ} {p : Prog A} {w x : State} (answer : Result A Errno) → Does t p w (stopped answer) x → Stays w x
+took_stays answer d = (does_leads answer d).stays
 
 -- what a session gives after a turn
 pub told_next : {S : Type 0} (f : S → Meaning) (world left : Whole S) (commands : List CommandLine) (given after : ℕ) (at next : Phase) (c : CommandLine) (turn : Turn) (want : Want)

@@ -2,6 +2,7 @@
 use Rattle.std.proofs.Common.{ℕ, ◌≡◌, ◌∙◌, Result, Ok, Err, ap, subst}
 use Rattle.hurd_creds.specs.declared.errno.Errno.{Errno}
 use Rattle.hurd_machine.specs.World.{World}
+use Rattle.hurd_world.specs.Noting.{State}
 use Rattle.hurd_machine.specs.Sound.{Sound}
 use Rattle.hurd_laws.specs.Step.{reply_of, after}
 use Rattle.hurd_laws.proofs.Assembled.{stays_sound}
@@ -16,10 +17,10 @@ go_sound t (calls c k) w s = go_sound t (k (reply_of w t c)) (after w t c) (stay
 go_sound t (asks words k) w s = s
 
 -- a world that a program stops in
-pub stop_sound : {A : Type 0} {t : ℕ} {p q : Prog A} {w x : World} → go t q x ≡ record { world = x; rest = q } → Leads t p w q x → Sound w → Sound x
-stop_sound {A} {t} {p} {q} {w} {x} stops l s = subst Sound (ap (λ (z : Pause A). z.world) (l.goes ∙ stops)) (go_sound t p w s)
+pub stop_sound : {A : Type 0} {t : ℕ} {p q : Prog A} {w x : State} → go t q x.world ≡ record { world = x.world; rest = q } → Leads t p w q x → Sound w.world → Sound x.world
+stop_sound {A} {t} {p} {q} {w} {x} stops l s = subst Sound (ap (λ (z : Pause A). z.world) (l.goes ∙ stops)) (go_sound t p w.world s)
 
 -- a world that a program without want of memory ends in
-pub does_sound : {A : Type 0} {t : ℕ} {p : Prog A} {w x : World} (answer : Result A Errno) → Does t p w (stopped answer) x → Sound w → Sound x
+pub does_sound : {A : Type 0} {t : ℕ} {p : Prog A} {w x : State} (answer : Result A Errno) → Does t p w (stopped answer) x → Sound w.world → Sound x.world
 does_sound (Ok a) d s = stop_sound (go-gives _ (Ok a) _) d.ends s
 does_sound (Err e) d s = stop_sound (go-gives _ (Err e) _) d.ends s

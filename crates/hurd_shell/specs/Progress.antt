@@ -4,9 +4,9 @@ use Rattle.hurd_creds.specs.declared.errno.Errno.{Errno}
 use Rattle.hurd_creds.specs.declared.open_flags.OpenFlags.{OpenFlags}
 use Rattle.hurd_trans_iface.specs.Meaning.{Meaning}
 use Rattle.hurd_machine.specs.Calls.{Call, Reply}
-use Rattle.hurd_machine.specs.World.{World}
 use Rattle.hurd_laws.specs.Step.{step}
-use Rattle.hurd_world.specs.Held.{Whole, world_of}
+use Rattle.hurd_world.specs.Held.{Whole, state_of}
+use Rattle.hurd_world.specs.Noting.{State, Stays}
 use Rattle.hurd_shell.specs.declared.fault.Stop.{Stop}
 use Rattle.hurd_shell.specs.declared.fault.Stop.TheVariants.{Refused, Memory}
 use Rattle.hurd_shell.specs.declared.looking.Outcome.{Outcome}
@@ -17,32 +17,34 @@ use Rattle.hurd_shell.specs.declared.looking.Target.{Target}
 use Rattle.hurd_shell.specs.Programs.{Prog, gives, closing, go}
 use Rattle.hurd_shell.specs.Looking.{Opener, look, starting}
 
--- a call of task t was told the machine's reply, and left its world
-pub record Stepped (w : World) (t : ℕ) (c : Call) (r : Reply) (x : World) : Type 0 where
-  pub step : (r, x) ≡ step w t c
+-- a call of task t was told the machine's reply, and left its world; what is noted stays right
+pub record Stepped (w : State) (t : ℕ) (c : Call) (r : Reply) (x : State) : Type 0 where
+  pub step : (r, x.world) ≡ step w.world t c
+  pub stays : Stays w x
 
 -- what was read of a reply, as the code has it
 abbrev pub stopped : {A : Type 0} → Result A Errno → Result A Stop
 stopped (Ok a) = Ok a
 stopped (Err e) = Err (Refused e)
 
--- task t comes, by calls, from the program p in w to the program q in x
-pub record Leads {A : Type 0} (t : ℕ) (p : Prog A) (w : World) (q : Prog A) (x : World) : Type 0 where
-  pub goes : go t p w ≡ go t q x
+-- task t comes, by calls, from the program p in w to the program q in x; what is noted stays right
+pub record Leads {A : Type 0} (t : ℕ) (p : Prog A) (w : State) (q : Prog A) (x : State) : Type 0 where
+  pub goes : go t p w.world ≡ go t q x.world
+  pub stays : Stays w x
 
 -- where a program of task t ends: with what the code has, unless memory was refused
-abbrev pub Ends : {A : Type 0} → ℕ → Prog A → World → Result A Stop → World → Type 0
+abbrev pub Ends : {A : Type 0} → ℕ → Prog A → State → Result A Stop → State → Type 0
 Ends t p w (Ok a) x = Leads t p w (gives (Ok a)) x
 Ends t p w (Err (Refused e)) x = Leads t p w (gives (Err e)) x
 Ends t p w (Err Memory) x = Unit {0}
 
 -- task t made all of the program p, from w on, and the code has its end
-pub record Does {A : Type 0} (t : ℕ) (p : Prog A) (w : World) (r : Result A Stop) (x : World) : Type 0 where
+pub record Does {A : Type 0} (t : ℕ) (p : Prog A) (w : State) (r : Result A Stop) (x : State) : Type 0 where
   pub ends : Ends t p w r x
 
 -- the same of the worlds that the code holds
 abbrev pub Ran : {S A : Type 0} → (S → Meaning) → ℕ → Prog A → Whole S → Result A Stop → Whole S → Type 0
-Ran f t p old r new = Does t p (world_of f old) r (world_of f new)
+Ran f t p old r new = Does t p (state_of f old) r (state_of f new)
 
 -- a program, and behind its end these ports are given up, the last first
 unfoldable pub releasing : List ℕ → Prog ℕ → Prog ℕ
@@ -65,29 +67,29 @@ found_on flags (found.Opened p) = gives (Ok p)
 found_on flags (found.Starts words left target) = starting (opening (look left flags) target) words
 
 -- where a program of task t comes to, with ports to give up: to what is left where the code goes on, or to a refusal
-abbrev pub ComesTo : {B : Type 0} → ℕ → Prog ℕ → World → (B → Prog ℕ) → List ℕ → Result B Stop → World → Type 0
+abbrev pub ComesTo : {B : Type 0} → ℕ → Prog ℕ → State → (B → Prog ℕ) → List ℕ → Result B Stop → State → Type 0
 ComesTo t p w left held (Ok b) x = Leads t p w (releasing held (left b)) x
 ComesTo t p w left held (Err (Refused e)) x = Leads t p w (releasing held (gives (Err e))) x
 ComesTo t p w left held (Err Memory) x = Unit {0}
 
 -- task t went on from the program p in w, and holds ports in x
-pub record Comes {B : Type 0} (t : ℕ) (p : Prog ℕ) (w : World) (left : B → Prog ℕ) (held : List ℕ) (r : Result B Stop) (x : World) : Type 0 where
+pub record Comes {B : Type 0} (t : ℕ) (p : Prog ℕ) (w : State) (left : B → Prog ℕ) (held : List ℕ) (r : Result B Stop) (x : State) : Type 0 where
   pub comes : ComesTo t p w left held r x
 
 -- the same of the worlds that the code holds, where it held ports before
 abbrev pub Went : {S B : Type 0} → (S → Meaning) → ℕ → List ℕ → Prog ℕ → Whole S → (B → Prog ℕ) → List ℕ → Result B Stop → Whole S → Type 0
-Went f t before p old left held r new = Comes t (releasing before p) (world_of f old) left held r (world_of f new)
+Went f t before p old left held r new = Comes t (releasing before p) (state_of f old) left held r (state_of f new)
 
 -- where a program of task t comes to: to what is left where the code goes on, or to a refusal
-abbrev pub ReachesTo : {A B : Type 0} → ℕ → Prog A → World → (B → Prog A) → Result B Stop → World → Type 0
+abbrev pub ReachesTo : {A B : Type 0} → ℕ → Prog A → State → (B → Prog A) → Result B Stop → State → Type 0
 ReachesTo t p w left (Ok b) x = Leads t p w (left b) x
 ReachesTo t p w left (Err (Refused e)) x = Leads t p w (gives (Err e)) x
 ReachesTo t p w left (Err Memory) x = Unit {0}
 
 -- task t went on from the program p in w
-pub record Reaches {A B : Type 0} (t : ℕ) (p : Prog A) (w : World) (left : B → Prog A) (r : Result B Stop) (x : World) : Type 0 where
+pub record Reaches {A B : Type 0} (t : ℕ) (p : Prog A) (w : State) (left : B → Prog A) (r : Result B Stop) (x : State) : Type 0 where
   pub reaches : ReachesTo t p w left r x
 
 -- the same of the worlds that the code holds
 abbrev pub Arrived : {S A B : Type 0} → (S → Meaning) → ℕ → Prog A → Whole S → (B → Prog A) → Result B Stop → Whole S → Type 0
-Arrived f t p old left r new = Reaches t p (world_of f old) left r (world_of f new)
+Arrived f t p old left r new = Reaches t p (state_of f old) left r (state_of f new)

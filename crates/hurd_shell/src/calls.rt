@@ -5,7 +5,7 @@ ghost use Rattle.hurd_creds.specs.declared.open_flags.OpenFlags.{OpenFlags};
 ghost use Rattle.hurd_creds.specs.Limits.{most_read};
 ghost use Rattle.hurd_machine.specs.Calls.{BringsBegun, box_in, call_by, lacks_memory, refusal, reply_by};
 ghost use Rattle.hurd_laws.specs.Called.{Lacks};
-ghost use Rattle.hurd_world.specs.Held.{world_of};
+ghost use Rattle.hurd_world.specs.Held.{state_of, world_of};
 ghost use Rattle.hurd_shell.specs.Programs.{made, data_of, done_of, names_of, port_of, set_of, stat_of, unread, words_of};
 ghost use Rattle.hurd_shell.specs.Commands.{at_cursor, directory_mode};
 ghost use Rattle.hurd_shell.specs.Looking.{file_mode, looked_of, looking};
@@ -47,7 +47,7 @@ fn made<S: Server>(
 ) -> Result<Reply<S>, NoMemory>
     requires { BringsBegun (call_by S.meaning call) }
     ensures ok { IfOk result (λ reply.
-        Stepped (world_of S.meaning world.old) task.0 (call_by S.meaning call) (reply_by S.meaning reply) (world_of S.meaning world.new)) }
+        Stepped (state_of S.meaning world.old) task.0 (call_by S.meaning call) (reply_by S.meaning reply) (state_of S.meaning world.new)) }
     ensures err { let c = call_by S.meaning call in IfErr result (λ e.
         Lacks (world_of S.meaning world.old) task.0 c (refusal (box_in c) Errno.ENOMEM) (world_of S.meaning world.new)) }
 {

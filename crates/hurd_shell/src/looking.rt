@@ -3,8 +3,8 @@ ghost use Rattle.std.specs.Prelude.{◌≡◌, ◌++◌, ◌∷◌, [], ℕ, Lis
 ghost use Rattle.std.specs.Option.{option_map};
 ghost use Rattle.hurd_creds.specs.declared.errno.Errno.{Errno};
 ghost use Rattle.hurd_trans_iface.specs.Kinds.Hello.{behind};
-ghost use Rattle.hurd_machine.specs.World.{World as Seen};
-ghost use Rattle.hurd_world.specs.Held.{world_of};
+ghost use Rattle.hurd_world.specs.Held.{state_of};
+ghost use Rattle.hurd_world.specs.Noting.{State};
 ghost use Rattle.hurd_shell.specs.Programs.{gives};
 ghost use Rattle.hurd_shell.specs.Looking as written;
 ghost use Rattle.hurd_shell.specs.Progress.{Arrived, Comes, Leads, Went, found_on, opening, opening_on, releasing};
@@ -125,8 +125,8 @@ fn give_up<S: Server>(
     task: TaskId,
     held: Vec<u64>,
 ) -> Result<(), NoMemory>
-    ensures { IfOk result (λ u. (end : Result ℕ Errno) → Leads task.0 (releasing held.items (gives end)) (world_of S.meaning world.old)
-        (gives end) (world_of S.meaning world.new)) }
+    ensures { IfOk result (λ u. (end : Result ℕ Errno) → Leads task.0 (releasing held.items (gives end)) (state_of S.meaning world.old)
+        (gives end) (state_of S.meaning world.new)) }
 {
     let mut held = held;
     while let Some(port) = held.pop() {
@@ -199,7 +199,7 @@ fn magical_place(name: &[u8]) -> Option<(u64, &[u8])>
 
 /// Follows a magical retry: its name is opened at the root, or at a port of the task's own.
 fn magical(alloc: Global, name: Bytes) -> Result<Target, Stop>
-    ensures { (t : ℕ) (held : List ℕ) (w : Seen) (opener : written.Opener)
+    ensures { (t : ℕ) (held : List ℕ) (w : State) (opener : written.Opener)
         → Comes t (releasing held (written.followed opener (Retry.Magical name))) w (opening opener) held result w }
 {
     let Some((dir, rest)) = magical_place(name.as_slice()) else {

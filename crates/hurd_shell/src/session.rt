@@ -7,7 +7,8 @@ ghost use Rattle.hurd_machine.specs.World as machine;
 ghost use Rattle.hurd_machine.specs.Sound.{Sound};
 ghost use Rattle.hurd_script.specs.Script.{bad, users_of};
 ghost use Rattle.hurd_world.specs.Boot.{boot_of};
-ghost use Rattle.hurd_world.specs.Held.{world_of};
+ghost use Rattle.hurd_world.specs.Held.{state_of, world_of};
+ghost use Rattle.hurd_world.specs.Noting.{Stays};
 ghost use Rattle.hurd_shell.specs.Session.{Begun, BegunWith, waits_for, BeginFault, HangsTogether, NewFault, NotTaken, Takes, TakesUnlessFailed, Tells, command_on, has_failed, next_task};
 ghost use Rattle.hurd_shell.specs.Transcript.{Dialogue, part_by, part_of, played, tells};
 ghost use Rattle.hurd_shell.specs.Turns.{Stands, turn_on};
@@ -68,6 +69,7 @@ fn take_turn<S: Server>(
         → played command.now.task (command_on phase command.now) (world_of S.meaning world.old) (λ r y. tells (part_by command.now (part_of command.now r) y) (next y))
         ≡ turn_on command.now next turn (world_of S.meaning world.new)) }
     ensures sound { Sound (world_of S.meaning world.old) → OnOk result (Sound (world_of S.meaning world.new)) }
+    ensures noted { OnOk result (Stays (state_of S.meaning world.old) (state_of S.meaning world.new)) }
 {
     match phase {
         Phase::Between => told(alloc, command, begin(world, alloc, command)),
@@ -156,6 +158,14 @@ impl<S: Server> Session<S> {
         matches!(self.phase, Phase::Failed)
     }
 
+    /// Notes from now on which parts calls touch.
+    pub fn note(&mut self)
+        ensures { (self.new.commands ≡ self.old.commands) × (self.new.given ≡ self.old.given) × (self.new.phase ≡ self.old.phase)
+            × (self.new.world.core ≡ self.old.world.core) }
+    {
+        self.world.note();
+    }
+
     /// The world, as the commands so far left it.
     pub fn world(&self) -> &World<S>
         ensures { result.now ≡ self.now.world }
@@ -188,6 +198,7 @@ impl<S: Server> Session<S> {
         ensures tells { has_failed self.old ≡ false → Tells S.meaning self.old result self.new }
         ensures sound { HangsTogether S.meaning self.old → HangsTogether S.meaning self.new }
         ensures stays { has_failed self.old ≡ true → (result ≡ Err SessionFault.Memory) × (self.new ≡ self.old) }
+        ensures noted { OnOk result (Stays (state_of S.meaning self.old.world) (state_of S.meaning self.new.world)) }
     {
         if self.has_failed() {
             return Err(SessionFault::Memory);
@@ -231,6 +242,7 @@ impl<S: Server> Session<S> {
         ensures err { IfErr result (λ e. NotTaken self.old e.0 self.new × (e.1 ≡ server)) }
         ensures sound { HangsTogether S.meaning self.old → HangsTogether S.meaning self.new }
         ensures stays { has_failed self.old ≡ true → (result ≡ Err (SupplyFault.Memory, server)) × (self.new ≡ self.old) }
+        ensures noted { OnOk result (Stays (state_of S.meaning self.old.world) (state_of S.meaning self.new.world)) }
     {
         if !self.waits() {
             return Err((self.not_taken(), server));
@@ -257,6 +269,7 @@ impl<S: Server> Session<S> {
         ensures err { IfErr result (λ e. NotTaken self.old e self.new) }
         ensures sound { HangsTogether S.meaning self.old → HangsTogether S.meaning self.new }
         ensures stays { has_failed self.old ≡ true → (result ≡ Err SupplyFault.Memory) × (self.new ≡ self.old) }
+        ensures noted { OnOk result (Stays (state_of S.meaning self.old.world) (state_of S.meaning self.new.world)) }
     {
         if !self.waits() {
             return Err(self.not_taken());
@@ -278,7 +291,8 @@ impl<S: Server> Session<S> {
     pub fn answer(&mut self, alloc: Global, server: Option<S>)
         requires begins { IfSome server (λ s. Begins (S.meaning s)) }
         requires waits { waits_for self.old ≡ true }
-        ensures { TakesUnlessFailed S.meaning self.old (option_map S.meaning server) self.new }
+        ensures takes { TakesUnlessFailed S.meaning self.old (option_map S.meaning server) self.new }
+        ensures noted { has_failed self.new ≡ false → Stays (state_of S.meaning self.old.world) (state_of S.meaning self.new.world) }
     {
         match server {
             Some(server) => {

@@ -10,3 +10,4 @@ pub mod ReadingLaws
 pub mod PrintLaws
 pub mod SayingLaws
 pub mod WatchLaws
+pub mod UnmovedLaws

@@ -30,11 +30,11 @@ module _ (tasks : List TaskId) (who : Speech) where
       let this : v ≡ a = cc in
       (a, learns.view, rw this at views, learns.sees, learns.learned)
 
-  lesson : (w x : World) (quiet : Bool) (before after : Option View) (text : List ℕ) → (quiet ≡ false → Sees tasks w before) → SaysOf tasks who.learns quiet x before after text → Lesson tasks who.learns quiet w x text
+  pub lesson : (w x : World) (quiet : Bool) (before after : Option View) (text : List ℕ) → (quiet ≡ false → Sees tasks w before) → SaysOf tasks who.learns quiet x before after text → Lesson tasks who.learns quiet w x text
   lesson w x true before after text sees says = record { none = λ _. says.1; some = λ loud. absurd (true≢false loud) }
   lesson w x false before after text sees says = record { none = λ still. absurd (true≢false (sym still)); some = λ _. taught w x before after text (sees refl) says }
 
-  kept_here : (x : World) (quiet : Bool) (before after : Option View) (text : List ℕ) → SaysOf tasks who.learns quiet x before after text → SeenOf tasks x after
+  pub kept_here : (x : World) (quiet : Bool) (before after : Option View) (text : List ℕ) → SaysOf tasks who.learns quiet x before after text → SeenOf tasks x after
   kept_here x true before after text says = rw says.0 tt
   kept_here x false before after text says = rw says.kept says.sees
 

@@ -1,9 +1,11 @@
 -- What tasks saw when they were last looked at, and what they learn since.
-use Rattle.std.specs.Prelude.{◌≡◌, ℕ, List, [], Option, Some, None, refl}
+use Rattle.std.specs.Prelude.{◌≡◌, ℕ, Bool, false, not, List, [], Option, Some, None, refl}
+use Rattle.std.specs.List.{list_any}
 use Rattle.std.specs.Coded.{Coded, code_by, coded_option}
 use Rattle.hurd_creds.specs.declared.name.TaskId.{TaskId}
 use Rattle.hurd_machine.specs.World.{World}
-use Rattle.hurd_views.specs.Views.{Views}
+use Rattle.hurd_sight.specs.declared.parts.SeenPart.{SeenPart}
+use Rattle.hurd_views.specs.Views.{Views, tells_in}
 use Rattle.hurd_views.specs.declared.view.View.{View}
 use Rattle.hurd_views.specs.contracts.view.View as view
 use Rattle.hurd_lessons.specs.Lessons.{Lessons}
@@ -14,6 +16,11 @@ pub record Watched : Type 0 where
 
 abbrev pub coded_watched : Coded Watched
 coded_watched = code_by (Option View) (coded_option view.the_row.coded) (λ w. w.seen) (λ o. record { seen = o }) (λ _. refl)
+
+-- it is known which parts were touched, and none of them was seen when there was a look
+abbrev pub misses : Option (List SeenPart) → Option View → Bool
+misses (Some parts) (Some v) = not (list_any (tells_in v) parts)
+misses _ _ = false
 
 -- what is seen is this world's
 abbrev pub Sees : List TaskId → World → Option View → Type 0

@@ -1,5 +1,6 @@
 //! A text from its beginning to the last line, with what is learned on the way.
 ghost use Rattle.std.specs.Prelude.{◌≡◌, ◌≢◌, true, Err, None, IfErr, OnOk};
+ghost use Rattle.hurd_machine.specs.Sound.{Sound};
 ghost use Rattle.hurd_terminal.specs.Runs.{Adds};
 ghost use Rattle.hurd_teaching.specs.Programs.{learning};
 ghost use Rattle.hurd_teaching.specs.Shown.{NotShown, Shown};
@@ -26,6 +27,7 @@ fn learn<T: Telling, W: Write>(
 ) -> Result<(), Fault>
     requires anew { watch.old.seen ≡ None }
     requires begun { (T.way telling.old).told ≡ 0 }
+    requires sound { Sound (T.way telling.old).world }
     ensures ok { OnOk result (Shown learners.now T.sort.thing (T.way telling.old).world (T.way telling.old).left (W.contents output.old.writer) (W.contents output.new.writer)) }
     ensures err { IfErr result (λ fault. NotShown learners.now T.sort.thing (T.way telling.old).world (T.way telling.old).left
         output.new (W.contents output.old.writer) fault (W.contents output.new.writer)) }
@@ -43,7 +45,8 @@ fn learn_anew<T: Telling, W: Write>(
     learners: &Learners,
     output: &mut Output<W>,
 ) -> Result<(), Fault>
-    requires { (T.way telling.old).told ≡ 0 }
+    requires begun { (T.way telling.old).told ≡ 0 }
+    requires sound { Sound (T.way telling.old).world }
     ensures ok { OnOk result (Shown learners.now T.sort.thing (T.way telling.old).world (T.way telling.old).left (W.contents output.old.writer) (W.contents output.new.writer)) }
     ensures err { IfErr result (λ fault. NotShown learners.now T.sort.thing (T.way telling.old).world (T.way telling.old).left
         output.new (W.contents output.old.writer) fault (W.contents output.new.writer)) }

@@ -25,4 +25,5 @@ pub use learning::learn_text;
 pub use naming::learners_of;
 pub use seeing::{look, reached, seen, view_of};
 pub use sights::see_text;
+pub use telling::{paragraph, said};
 pub use watch::Watch;

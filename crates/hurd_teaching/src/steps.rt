@@ -1,13 +1,14 @@
 //! A text on its way that is watched, part by part.
 ghost use Rattle.std.specs.Prelude.{◌≡◌, false, None, IfErr, IfOk, OnOk};
 ghost use Rattle.hurd_dialogue.specs.Parts.{next_task};
+ghost use Rattle.hurd_machine.specs.Sound.{Sound};
 ghost use Rattle.hurd_terminal.specs.Faults.{IsPrintFault};
 ghost use Rattle.hurd_teaching.specs.Learners.{is_next_quiet, speech};
 ghost use Rattle.hurd_teaching.specs.Shown.{StepsTo, StopsAt, ToldAll, ToldSome};
 ghost use Rattle.hurd_teaching.specs.Watched.{SeenOf, Sees};
 
 use crate::learners::Learners;
-use crate::telling::{counted, print_all, said, shown};
+use crate::telling::{counted, print_all, said_if_moved, shown};
 use crate::watch::Watch;
 use hurd_dialogue::Telling;
 use hurd_lessons::Tally;
@@ -25,20 +26,23 @@ fn is_quiet<T: Telling>(telling: &T, learners: &Learners) -> bool
     }
 }
 
-/// Whether nothing is said of the next part. Before any other it is looked at what these see, unless that was done. An error is want of memory.
+/// Whether nothing is said of the next part. Before any other it is looked at what these see, unless that was done, and noted from then on what is touched.
+/// An error is want of memory.
 fn looked<T: Telling>(
     alloc: Global,
-    telling: &T,
+    telling: &mut T,
     learners: &Learners,
     watch: &mut Watch,
 ) -> Result<bool, AllocError>
-    requires { SeenOf learners.now.tasks.items (T.way telling.now).world watch.old.seen }
-    ensures quiet { IfOk result (λ quiet. quiet ≡ is_next_quiet learners.now.tasks.items learners.now.from (T.way telling.now).told (next_task (T.way telling.now).left)) }
-    ensures sees { IfOk result (λ quiet. quiet ≡ false → Sees learners.now.tasks.items (T.way telling.now).world watch.new.seen) }
+    requires { SeenOf learners.now.tasks.items (T.way telling.old).world watch.old.seen }
+    ensures same { T.way telling.new ≡ T.way telling.old }
+    ensures quiet { IfOk result (λ quiet. quiet ≡ is_next_quiet learners.now.tasks.items learners.now.from (T.way telling.old).told (next_task (T.way telling.old).left)) }
+    ensures sees { IfOk result (λ quiet. quiet ≡ false → Sees learners.now.tasks.items (T.way telling.old).world watch.new.seen) }
 {
     let quiet = is_quiet(telling, learners);
     if !quiet {
         watch.look(alloc, telling.world(), learners.tasks.as_slice())?;
+        telling.note();
     }
     Ok(quiet)
 }
@@ -55,7 +59,9 @@ fn step<T: Telling, W: Write>(
     tally: &mut Tally,
     output: &mut Output<W>,
 ) -> Result<bool, Fault>
-    requires { SeenOf learners.now.tasks.items (T.way telling.old).world watch.old.seen }
+    requires seen { SeenOf learners.now.tasks.items (T.way telling.old).world watch.old.seen }
+    requires sound { Sound (T.way telling.old).world }
+    ensures sound { OnOk result (Sound (T.way telling.new).world) }
     ensures ok { IfOk result (λ more. StepsTo learners.now.tasks.items (speech learners.now) (T.way telling.old) tally.old (W.contents output.old.writer)
         more (T.way telling.new) watch.new.seen tally.new (W.contents output.new.writer)) }
     ensures err { IfErr result (λ fault. IsPrintFault output.new fault
@@ -65,7 +71,8 @@ fn step<T: Telling, W: Write>(
     let Some(part) = telling.next(alloc)? else {
         return Ok(false);
     };
-    let said = said(alloc, telling.world(), learners, watch, quiet)?;
+    let unmoved = !quiet && watch.misses(telling.noted());
+    let said = said_if_moved(alloc, telling.world(), learners, watch, quiet, unmoved)?;
     let asked = learners.are_shown(telling.told());
     let shown = shown(alloc, telling.world(), learners, asked)?;
     print_all(alloc, &part, &said, &shown, output)?;
@@ -84,7 +91,8 @@ pub(crate) fn tell_all<T: Telling, W: Write>(
     tally: &mut Tally,
     output: &mut Output<W>,
 ) -> Result<(), Fault>
-    requires { watch.old.seen ≡ None }
+    requires anew { watch.old.seen ≡ None }
+    requires sound { Sound (T.way telling.old).world }
     ensures ok { OnOk result (ToldAll learners.now.tasks.items (speech learners.now) (T.way telling.old).told (T.way telling.old).world (T.way telling.old).left
         tally.old (W.contents output.old.writer) tally.new (W.contents output.new.writer)) }
     ensures err { IfErr result (λ fault. IsPrintFault output.new fault

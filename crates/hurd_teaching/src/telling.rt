@@ -1,11 +1,12 @@
 //! What is said behind what each task did, and what is shown.
-ghost use Rattle.std.specs.Prelude.{◌≡◌, ◌++◌, if◌then◌else◌, IfErr, IfOk, OnOk};
+ghost use Rattle.std.specs.Prelude.{◌≡◌, ◌++◌, if◌then◌else◌, true, false, IfErr, IfOk, OnOk};
 ghost use Rattle.std.specs.Io.KnownBytes.{Appends};
 ghost use Rattle.hurd_world.specs.Held.{world_of};
 ghost use Rattle.hurd_sentences.specs.Turns.{paragraph};
 ghost use Rattle.hurd_lessons.specs.Told.{counted};
 ghost use Rattle.hurd_terminal.specs.Faults.{AppendsFront, IsPrintFault};
 ghost use Rattle.hurd_teaching.specs.Telling.{SaysOf, Shows};
+ghost use Rattle.hurd_teaching.specs.Watched.{Sees};
 
 use crate::learners::Learners;
 use crate::seeing::view_of;
@@ -21,7 +22,7 @@ use std::io::Write;
 
 /// What is said behind what was done: nothing where nothing is to be said, and then these are looked at anew; else what they learn by it. An error is
 /// want of memory.
-pub(crate) fn said<S: Server>(
+pub fn said<S: Server>(
     alloc: Global,
     world: &World<S>,
     learners: &Learners,
@@ -40,6 +41,24 @@ pub(crate) fn said<S: Server>(
         learners.tasks.as_slice(),
         learners.who.as_slice(),
     )
+}
+
+/// The same; and nothing where it is known that what these see is as it was.
+pub(crate) fn said_if_moved<S: Server>(
+    alloc: Global,
+    world: &World<S>,
+    learners: &Learners,
+    watch: &mut Watch,
+    quiet: bool,
+    unmoved: bool,
+) -> Result<Bytes, AllocError>
+    requires { unmoved ≡ true → (quiet ≡ false) × Sees learners.now.tasks.items (world_of S.meaning world.now) watch.old.seen }
+    ensures { IfOk result (λ text. SaysOf learners.now.tasks.items learners.now.who.items quiet (world_of S.meaning world.now) watch.old.seen watch.new.seen text) }
+{
+    if unmoved {
+        return Ok(Bytes::new(Vec::new(alloc)));
+    }
+    said(alloc, world, learners, watch, quiet)
 }
 
 /// What is shown behind what was done: all that these see, where that is asked for. An error is want of memory.
@@ -66,7 +85,7 @@ pub(crate) fn counted(tally: Tally, quiet: bool, said: &Bytes) -> Tally
 }
 
 /// A paragraph: a part, what is said behind it, and what is shown behind that. An error is want of memory.
-fn paragraph(
+pub fn paragraph(
     alloc: Global,
     part: &Bytes,
     said: &Bytes,

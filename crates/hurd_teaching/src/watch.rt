@@ -1,15 +1,19 @@
 //! What some tasks saw when they were last looked at.
 ghost use Rattle.std.specs.Prelude.{◌≡◌, None, Some, IfErr, IfOk, OnOk};
+ghost use Rattle.std.specs.List.{list_any};
 ghost use Rattle.std.specs.Option.{option_map};
 ghost use Rattle.hurd_world.specs.Held.{world_of};
-ghost use Rattle.hurd_teaching.specs.Watched.{LearnedSince, Learns, SeesOr};
+ghost use Rattle.hurd_touches.specs.Touched.{listed};
+ghost use Rattle.hurd_views.specs.Views.{tells_in};
+ghost use Rattle.hurd_teaching.specs.Watched.{LearnedSince, Learns, SeesOr, misses};
 
 use crate::seeing::view_of;
 use hurd_creds::{Bytes, TaskId};
 use hurd_lessons::lessons;
+use hurd_sight::SeenPart;
 use hurd_trans_iface::Server;
 use hurd_views::View;
-use hurd_world::World;
+use hurd_world::{Noted, World};
 use std::alloc::{AllocError, Global};
 use std::marker::Model;
 
@@ -45,6 +49,18 @@ fn learned_since(
     }
 }
 
+/// Whether any of these parts was seen.
+fn tells_any(view: &View, parts: &[SeenPart]) -> bool
+    ensures { result ≡ list_any (tells_in view.now) parts.now }
+{
+    for part in parts {
+        if view.tells(*part) {
+            return true;
+        }
+    }
+    false
+}
+
 impl Watch {
     /// Nothing was looked at.
     pub fn new() -> Watch
@@ -68,6 +84,16 @@ impl Watch {
             self.keep(view);
         }
         Ok(())
+    }
+
+    /// Whether it is known which parts were touched, and none of them was seen when there was a look.
+    pub fn misses(&self, noted: &Noted) -> bool
+        ensures { result ≡ misses (listed noted.now) self.now.seen }
+    {
+        match (noted.parts(), &self.seen) {
+            (Some(parts), Some(view)) => !tells_any(view, parts),
+            _ => false,
+        }
     }
 
     /// These tasks do something themselves: they are to be looked at anew.

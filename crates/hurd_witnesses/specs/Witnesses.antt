@@ -54,13 +54,17 @@ text_before h made = h.front ++ text_of (take made h.commands.items)
 abbrev pub witness_by : Sort → Hunt → ℕ → List (List ℕ) → Option Witness
 witness_by sort h made trials = witness_at sort (text_before h made) (slice_get h.commands.items made) trials
 
+-- a line with what stands in front of it
+abbrev pub labelled : List ℕ → List ℕ → List ℕ
+labelled label said = label ++ (said ++ codes "\n")
+
 -- what is said of one: `    by alice cat /motd`, and each answer on a line of its own, `      before: ENOENT` and `      behind: Welcome`; or how many commands were tried where there is none
 abbrev pub no_witness_text : ℕ → List ℕ
 no_witness_text tried = if tried == 0 then codes "    by no command on a path\n" else codes "    by none of " ++ (decimal tried ++ codes " commands\n")
 
 abbrev pub witness_text : ℕ → Option Witness → List ℕ
 witness_text tried None = no_witness_text tried
-witness_text tried (Some w) = codes "    by " ++ (w.trial ++ (codes "\n      before: " ++ (shown_answer w.before ++ (codes "\n      behind: " ++ (shown_answer w.behind ++ codes "\n")))))
+witness_text tried (Some w) = labelled (codes "    by ") w.trial ++ (labelled (codes "      before: ") (shown_answer w.before) ++ labelled (codes "      behind: ") (shown_answer w.behind))
 
 -- what is said of what was learned by the command before which so many stand, by these trials
 abbrev pub said_by : Sort → Hunt → ℕ → List (List ℕ) → List ℕ

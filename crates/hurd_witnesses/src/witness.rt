@@ -1,7 +1,7 @@
 //! Looking for a command that is answered otherwise.
 ghost use Rattle.std.specs.Prelude.{◌≡◌, ◌++◌, IfOk, OnOk, codes, decimal};
-ghost use Rattle.hurd_witnesses.specs.Answers.{answer_of};
-ghost use Rattle.hurd_witnesses.specs.Witnesses.{ended, no_witness_text, said_by, text_before, told_apart, tried, witness_by, witness_of, witness_text};
+ghost use Rattle.hurd_witnesses.specs.Answers.{answer_of, shown_answer};
+ghost use Rattle.hurd_witnesses.specs.Witnesses.{ended, labelled, no_witness_text, said_by, text_before, told_apart, tried, witness_by, witness_of, witness_text};
 
 use crate::answers::{answer, push_answer};
 use crate::hunt::{Hunt, push_line, text_of};
@@ -141,6 +141,26 @@ fn push_none(text: &mut Vec<u8>, tried: usize) -> Result<(), AllocError>
     }
 }
 
+/// Adds a command, on a line of its own.
+fn push_trial(text: &mut Vec<u8>, trial: &[u8]) -> Result<(), AllocError>
+    ensures { OnOk result (text.new.items ≡ text.old.items ++ labelled (codes "    by ") trial.now) }
+{
+    text.extend_from_slice(b"    by ")?;
+    text.extend_from_slice(trial)?;
+    text.push(b'\n')?;
+    Ok(())
+}
+
+/// Adds an answer, on a line of its own, with what stands in front of it.
+fn push_answer_line(text: &mut Vec<u8>, label: &[u8], answer: &[u8]) -> Result<(), AllocError>
+    ensures { OnOk result (text.new.items ≡ text.old.items ++ labelled label.now (shown_answer answer.now)) }
+{
+    text.extend_from_slice(label)?;
+    push_answer(text, answer)?;
+    text.push(b'\n')?;
+    Ok(())
+}
+
 /// Adds what is said of a witness, or that there is none.
 fn push_witness(
     text: &mut Vec<u8>,
@@ -152,13 +172,9 @@ fn push_witness(
     let Some(witness) = witness else {
         return push_none(text, tried);
     };
-    text.extend_from_slice(b"    by ")?;
-    text.extend_from_slice(witness.trial.as_slice())?;
-    text.extend_from_slice(b"\n      before: ")?;
-    push_answer(text, witness.before.as_slice())?;
-    text.extend_from_slice(b"\n      behind: ")?;
-    push_answer(text, witness.behind.as_slice())?;
-    text.push(b'\n')?;
+    push_trial(text, witness.trial.as_slice())?;
+    push_answer_line(text, b"      before: ", witness.before.as_slice())?;
+    push_answer_line(text, b"      behind: ", witness.behind.as_slice())?;
     Ok(())
 }
 

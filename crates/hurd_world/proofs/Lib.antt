@@ -3,3 +3,4 @@ pub mod FirstPorts
 pub mod FirstWorld
 pub mod RowLaws
 pub mod RunLaws
+pub mod NotingLaws

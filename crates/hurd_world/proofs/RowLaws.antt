@@ -34,30 +34,6 @@ module _ {S : Type 0} (f : S → Meaning) (v w : World) (t : ℕ) (call : code.C
   owed : (c : code.Call S) (got : code_reply.Reply S) (x : World) → call ≡ c → reply ≡ got → y ≡ x → Called w t (call_by f c) (reply_by f got) x → ComesBack c got → Owes
   owed c got x is same left called back = rw (is, same, left, ← seen) (called, back)
 
-  -- the call takes no memory
-  pub follows_row : {T : Type 0} (c : code.Call S) (k : T → code_reply.Reply S) (r : Result T Errno) (got : code_reply.Reply S) (x : World) → ((a : T) → ComesBack c (k a)) → call ≡ c → reply ≡ got → y ≡ x
-      → got ≡ told_of k r → Follows w (plan w t (call_by f c)) (told (λ a. reply_by f (k a)) r) x → Owes
-  follows_row c k (Ok a) got x plain is same left so p = owed c (k a) x is (same ∙ so) left (stepped w x t (call_by f c) (reply_by f (k a)) p.0 p.1) (plain a)
-  follows_row c k (Err e) got x plain is same left so p = owed c (Refused e) x is (same ∙ so) left (stepped w x t (call_by f c) (Refused e) p.0 p.1) tt
-
-  -- the call may find none, unless it needs none
-  pub planned_row : {T : Type 0} (c : code.Call S) (k : T → code_reply.Reply S) (r : Result T Errno) (got : code_reply.Reply S) (x : World) → ((a : T) → ComesBack c (k a)) → takes_memory (call_by f c) ≡ true
-      → box_in (call_by f c) ≡ None → call ≡ c → reply ≡ got → y ≡ x → got ≡ told_of k r → Planned w (plan w t (call_by f c)) (λ a. reply_by f (k a)) r x
-      → (NeedsNone w t (call_by f c) → Follows w (plan w t (call_by f c)) (told (λ a. reply_by f (k a)) r) x) → Owes
-  planned_row c k (Ok a) got x plain takes none is same left so p free = owed c (k a) x is (same ∙ so) left (stepped w x t (call_by f c) (reply_by f (k a)) p.0 p.1) (plain a)
-  planned_row c k (Err e) got x plain takes none is same left so (back, inl bars) free =
-      owed c (Refused e) x is (same ∙ so) left
-      (stepped w x t (call_by f c) (Refused e) (ap (λ (P : Plan). P.reply) (sym bars)) (back ∙ ap (λ (P : Plan). after_plan w P) (sym bars))) tt
-  planned_row c k (Err e) got x plain takes none is same left so (back, inr lacks) free =
-      owed c (Refused e) x is (same ∙ so) left
-      (inr (record {
-        told = ap (λ (n : Errno). Refused n) lacks.0 ∙ ap (λ (o : Option Meaning). refusal o ENOMEM) (sym none);
-        takes = takes;
-        needs = λ n. true≢false (ap is_refused (free n).0 ∙ lacks.1);
-        wanted = inl lacks.1;
-        same = back;
-      })) tt
-
   -- a lookup, which may find none where targets are to be looked at
   pub lookup_row : (p : ℕ) (path : List ℕ) (flags : OpenFlags) (mode : Mode) (r : Result code_lookup.Lookup Errno) (got : code_reply.Reply S) (x : World) → call ≡ DirLookup p path flags mode → reply ≡ got → y ≡ x
       → got ≡ told_of (λ n. Found n) r → PlannedOr (LookupLacks w t p path flags mode) w (plan_lookup w t p path flags mode) (λ n. Found n) r x → Owes
@@ -68,12 +44,6 @@ module _ {S : Type 0} (f : S → Meaning) (v w : World) (t : ℕ) (call : code.C
   lookup_row p path flags mode (Err e) got x is same left so (back, inr lacks) =
       owed (DirLookup p path flags mode) (Refused e) x is (same ∙ so) left
       (inr (record { told = ap (λ (n : Errno). Refused n) lacks.0; takes = refl; needs = λ n. n; wanted = lacks.1; same = back })) tt
-
-  -- the call takes memory where it has words
-  pub options_row : (c : ℕ) (words : List (List ℕ)) (r : Result (Unit {0}) Errno) (got : code_reply.Reply S) (x : World) → call ≡ FsysSetOptions c words → reply ≡ got → y ≡ x → got ≡ told_of (λ (u : Unit {0}). Done) r
-      → Planned w (plan_set_options w t c words) (λ u. Done) r x → (words ≡ [] → Follows w (plan_set_options w t c words) (told (λ u. Done) r) x) → Owes
-  options_row c [] r got x is same left so planned free = follows_row (FsysSetOptions c []) (λ (u : Unit {0}). Done) r got x (λ u. tt) is same left so (free refl)
-  options_row c (v ∷ vs) r got x is same left so planned free = planned_row (FsysSetOptions c (v ∷ vs)) (λ (u : Unit {0}). Done) r got x (λ u. tt) refl refl is same left so planned (λ n. absurd n)
 
   -- a call that brings a box, or none
 
@@ -129,27 +99,6 @@ module _ {S : Type 0} (f : S → Meaning) (v w : World) (t : ℕ) (call : code.C
     set_row server (Ok u) got x is same left so planned free back = owed (asked server) Done x is (same ∙ so) left (set_done server u x planned) tt
     set_row server (Err e) got x is same left so planned free back =
         owed (asked server) (refusal server e.0) x is (same ∙ so ∙ ap (λ (o : Option S). refusal o e.0) back) left (set_refused server e.0 x planned free) (comes_back server e.0)
-
-  -- a call that always brings one
-
-  abbrev starts : S → Plan
-  starts server = plan_startup w t (f server)
-
-  abbrev starts_done : Unit {0} → Reply
-  starts_done u = Done
-
-  pub start_row : (server : S) (r : Result (Unit {0}) (Errno × S)) (got : code_reply.Reply S) (x : World) → call ≡ FsysStartup server → reply ≡ got → y ≡ x → got ≡ start_told r
-      → TriedOr (StartLacks w t (f server)) w (starts server) starts_done (without_box r) x → IfErr r (λ e. e.1 ≡ server) → Owes
-  start_row server (Ok u) got x is same left so (inl p) back =
-      owed (FsysStartup server) Done x is (same ∙ so) left (stepped w x t (call_by f (FsysStartup server)) Done (ap (handing_back (f server)) p.0) p.1) tt
-  start_row server (Ok u) got x is same left so (inr lacks) back = let out = lacks.0 in absurd (cc)
-  start_row server (Err e) got x is same left so (inl p) back =
-      owed (FsysStartup server) (Back e.0 server) x is (same ∙ so ∙ ap (λ (s : S). Back e.0 s) back) left
-      (stepped w x t (call_by f (FsysStartup server)) (Back e.0 (f server)) (ap (handing_back (f server)) p.0) p.1) refl
-  start_row server (Err e) got x is same left so (inr lacks) back =
-      let none : e.0 ≡ ENOMEM = cc (lacks.0) in
-      owed (FsysStartup server) (Back e.0 server) x is (same ∙ so ∙ ap (λ (s : S). Back e.0 s) back) left
-      (inr (record { told = ap (λ (n : Errno). Back n (f server)) none; takes = refl; needs = λ n. n; wanted = wants (f server) (starts server).reply lacks.1.1; same = lacks.1.0 })) refl
 
 -- the condition on a box, as the row wants it
 pub begun_box : {S : Type 0} (f : S → Meaning) (server : Option S) → IfSome (option_map f server) Begins → IfSome server (λ s. Begins (f s))

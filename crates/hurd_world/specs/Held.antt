@@ -1,5 +1,6 @@
 -- The world that the code holds, and how its calls and replies are read.
-use Rattle.std.specs.Prelude.{◌≡◌, List, [], ◌∷◌, Result, Ok, Err, Option, Some}
+use Rattle.std.specs.Prelude.{◌≡◌, List, [], ◌∷◌, Result, Ok, Err, Option, Some, refl}
+use Rattle.std.specs.Coded.{Coded, code_by, coded×}
 use Rattle.hurd_creds.specs.declared.errno.Errno.{Errno}
 use Rattle.hurd_creds.specs.declared.name.TaskId.{TaskId}
 use Rattle.hurd_trans_iface.specs.Meaning.{Meaning}
@@ -7,8 +8,28 @@ use Rattle.hurd_machine.specs.declared.call.Call as call
 use Rattle.hurd_machine.specs.declared.call.Reply as reply
 use Rattle.hurd_machine.specs.declared.call.Reply.TheVariants.{Done, Refused, Back}
 use Rattle.hurd_machine.specs.Calls.{BringsBegun, box_in, call_by, refusal}
+use Rattle.hurd_machine.specs.World.{World}
 use Rattle.hurd_laws.specs.Runs.{TaskCall}
-pub use Rattle.hurd_core.specs.Core.{Whole, coded_whole, world_of}
+use Rattle.hurd_core.specs.Core as core
+use Rattle.hurd_touches.specs.contracts.noted.Noted as noted
+use Rattle.hurd_touches.specs.declared.noted.Noted.{Noted}
+use Rattle.hurd_world.specs.Noting.{State}
+
+-- nodes, tasks and opens, and the parts that calls touched since these were to be noted
+pub record Whole (S : Type 0) : Type 0 where
+  pub core : core.Whole S
+  pub noted : Noted
+
+abbrev pub coded_whole : {S : Type 0} → Coded S → Coded (Whole S)
+coded_whole {S} c = code_by (core.Whole S × Noted) (coded× (core.coded_whole c) noted.the_row.coded) (λ w. (w.core, w.noted)) (λ p. record { core = p.0; noted = p.1 }) (λ _. refl)
+
+-- the world that these stand for, where each server means this
+abbrev pub world_of : {S : Type 0} → (S → Meaning) → Whole S → World
+world_of f w = core.world_of f w.core
+
+-- with the parts that are noted
+abbrev pub state_of : {S : Type 0} → (S → Meaning) → Whole S → State
+state_of f w = record { world = world_of f w; noted = w.noted }
 
 -- a call with its task, where each box means this
 abbrev pub made_by : {S : Type 0} → (S → Meaning) → TaskId × call.Call S → TaskCall

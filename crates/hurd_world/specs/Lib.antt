@@ -1,3 +1,4 @@
 pub mod Held
 pub mod Boot
 pub mod BootPort
+pub mod Noting

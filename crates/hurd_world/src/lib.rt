@@ -9,6 +9,7 @@
 
 mod boot;
 mod replies;
+mod rows;
 mod world;
 
 pub use hurd_laws::{
@@ -18,4 +19,5 @@ pub use hurd_laws::{
 };
 pub use hurd_machine::{Call, Lookup, Reply, RetryKind, Whence};
 pub use hurd_names::{names_untold, raised_looks_same, renamed_sound, side_by_side_renamed};
+pub use hurd_touches::Noted;
 pub use world::World;

@@ -21,4 +21,4 @@ returns-clause-ok g c =
     let w = world_of f c.args.world.now in
     let x = world_of f c.call-reply.new.self in
     let found = lacks_by f c.call-reply.result ∙ sym c.lacks_memory.ensures ∙ c.if-lacks_memory.false in
-    record { step = called_step w x c.args.task.0 (call_by f c.args.call) (reply_by f c.call-reply.result) c.call-reply.ensures.answer found }
+    record { step = called_step w x c.args.task.0 (call_by f c.args.call) (reply_by f c.call-reply.result) c.call-reply.ensures.answer found; stays = c.call-reply.ensures.noted }

@@ -6,5 +6,5 @@ use Rattle.hurd_teaching.proofs.seeing.look.Goals as goal
 
 pub returns : goal.returns
 returns g c =
-    let lent = of_lent_core g.S.Server.meaning c.args.world.now c.core-core.result.now c.nodes.result.now c.ports.result.now c.nodes.ensures c.ports.ensures c.core-core.ensures in
+    let lent = of_lent_core g.S.Server.meaning c.args.world.now.core c.core-core.result.now c.nodes.result.now c.ports.result.now c.nodes.ensures c.ports.ensures c.core-core.ensures in
     if_ok c.of.result (λ sight looks. lent (λ w. Looks (among c.args.tasks.now) w sight) looks) c.of.ensures.looks

@@ -4,15 +4,21 @@ use Rattle.hurd_teaching.proofs.Following.{fewer, following_cut, following_done,
 use Rattle.hurd_teaching.proofs.steps.tell_all.Goals as goal
 
 pub steps-init : goal.steps-init
-steps-init g c = following_none _ _ (g.T.Telling.way c.args.telling.now) _ _ _ c.requires
+steps-init g c = record { told = following_none _ _ (g.T.Telling.way c.args.telling.now) _ _ _ c.requires.anew; sound = c.requires.sound }
 
-pub step-requires : goal.step-requires
-step-requires g c = c.steps.invariant.seen
+pub step-requires-clause-seen : goal.step-requires-clause-seen
+step-requires-clause-seen g c = c.steps.invariant.told.seen
+
+pub step-requires-clause-sound : goal.step-requires-clause-sound
+step-requires-clause-sound g c = c.steps.invariant.sound
 
 pub steps-preserved : goal.steps-preserved
 steps-preserved g c =
     let told = rw c.if-not-branch.false at c.in_ok-step.ensures.ok in
-    following_more _ _ (g.T.Telling.way c.args.telling.now) _ _ (g.T.Telling.way c.steps.telling) _ _ _ c.steps.invariant (g.T.Telling.way c.step.new.telling) _ _ _ told
+    record {
+      told = following_more _ _ (g.T.Telling.way c.args.telling.now) _ _ (g.T.Telling.way c.steps.telling) _ _ _ c.steps.invariant.told (g.T.Telling.way c.step.new.telling) _ _ _ told;
+      sound = c.in_ok-step.ensures.sound;
+    }
 
 pub steps-smaller : goal.steps-smaller
 steps-smaller g c =
@@ -23,10 +29,10 @@ steps-smaller g c =
 pub returns-then-not-branch-clause-ok : goal.returns-then-not-branch-clause-ok
 returns-then-not-branch-clause-ok g c =
     let none = rw c.if-not-branch.true at c.in_ok-step.ensures.ok in
-    following_done _ _ (g.T.Telling.way c.args.telling.now) _ _ (g.T.Telling.way c.steps.telling) _ _ _ c.steps.invariant (g.T.Telling.way c.step.new.telling) _ _ _ none
+    following_done _ _ (g.T.Telling.way c.args.telling.now) _ _ (g.T.Telling.way c.steps.telling) _ _ _ c.steps.invariant.told (g.T.Telling.way c.step.new.telling) _ _ _ none
 
 pub returns-in_err-step-clause-err : goal.returns-in_err-step-clause-err
 returns-in_err-step-clause-err g c =
     let p = err_from_is_err_and c.from_residual.result c.from_residual.ensures.1 in
     let failed = c.in_err-step.ensures.err in
-    rw (p.1, p.2) (failed.0, following_cut _ _ (g.T.Telling.way c.args.telling.now) _ _ (g.T.Telling.way c.steps.telling) _ _ _ c.steps.invariant _ failed.1)
+    rw (p.1, p.2) (failed.0, following_cut _ _ (g.T.Telling.way c.args.telling.now) _ _ (g.T.Telling.way c.steps.telling) _ _ _ c.steps.invariant.told _ failed.1)

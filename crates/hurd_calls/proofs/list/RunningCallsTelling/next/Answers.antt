@@ -3,13 +3,16 @@ use Rattle.std.proofs.lemmas.List.{nil_from_length}
 use Rattle.hurd_calls.proofs.WayLaws.{call_goes, none_goes}
 use Rattle.hurd_calls.proofs.list.RunningCallsTelling.next.Goals as goal
 
-pub returns-in_default : goal.returns-in_default
-returns-in_default c =
+pub returns-in_default-clause-goes : goal.returns-in_default-clause-goes
+returns-in_default-clause-goes c =
     let none = nil_from_length _ (sym c.args.self.now.calls.ok.0 ∙ c.in_default.ensures.cases.0) in
     let rest = nil_from_length _ (sym c.pop_front.new.self.ok.0 ∙ c.in_default.ensures.cases.1) in
     none_goes c.args.self.now.world.value c.args.self.now.calls.items c.pop_front.new.self.items c.args.self.now.told c.args.self.now.tasks none (rest ∙ sym none)
 
-pub returns : goal.returns
-returns c =
+pub returns-clause-goes : goal.returns-clause-goes
+returns-clause-goes c =
     call_goes c.args.self.now.world.value c.part.new.world c.in-Some.listed _ c.pop_front.new.self.items c.args.self.now.told _ c.args.self.now.tasks c.in_ok-part.field-0 c.in-Some.ensures.items refl
     (rw c.deref_mut.ensures.value at c.in_ok-part.ensures.part) (rw c.deref_mut.ensures.value at c.in_ok-part.ensures.world)
+
+pub returns-clause-noted : goal.returns-clause-noted
+returns-clause-noted c = rw c.deref_mut.ensures.value at c.in_ok-part.ensures.noted

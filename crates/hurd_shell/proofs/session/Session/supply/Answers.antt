@@ -1,5 +1,5 @@
 use Rattle.std.proofs.Common.{◌∙◌, sym}
-use Rattle.hurd_shell.proofs.SessionLaws.{took}
+use Rattle.hurd_shell.proofs.SessionLaws.{took, took_stays}
 use Rattle.hurd_shell.proofs.session.Session.supply.Goals as goal
 
 pub returns-in-Ok-clause-ok : goal.returns-in-Ok-clause-ok
@@ -9,3 +9,6 @@ returns-in-Ok-clause-ok g c =
     rw (← c.self.view_is)
     (took g.S.Server.meaning inside.world c.bring.new.world inside.commands.items inside.given inside.phase c.index.result.now c.in-Waiting.waiting _ c.in-Ok.stage c.in-Ok.answer
     (sym c.replace.ensures.value ∙ c.in-Waiting.is) (sym waits ∙ c.if-not-waits.false) c.index.ensures c.in-Ok.ensures.ok.0 (rw c.task-task.ensures at c.in-Ok.ensures.ok.1))
+
+pub returns-in-Ok-clause-noted : goal.returns-in-Ok-clause-noted
+returns-in-Ok-clause-noted g c = rw (← c.self.view_is) (took_stays c.in-Ok.answer c.in-Ok.ensures.ok.1)

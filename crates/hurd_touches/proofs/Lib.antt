@@ -1,0 +1,4 @@
+pub mod AddsLaws
+pub mod EntryLaws
+pub mod PortLaws
+pub mod UnnoticedLaws
