@@ -1,5 +1,6 @@
-/* Steps of a program over the library, a word each: room=N, begin=TEXT, make=TEXT, told=FROM, end, file=NAME (the next text stands there). Behind each step but
-   the first and the last stand the bytes that were copied, and a line that says how it ended.
+/* Steps of a program over the library, a word each. begin=TEXT, make=TEXT, watch=WHO, told=FROM and end are about a world that is kept; run=TEXT, learn=TEXT, see=TEXT
+   and draw=TEXT about a whole text. Behind each but `end` stand the bytes that were copied, if any may be, and a line that says how it ended. room=N, sort=N and who=WHO
+   say what the later steps are given, and file=NAME where the next text stands.
 
    Each text and each room has a block of its own of that size, so that who looks at the memory sees a byte too many. Bytes behind those that were copied should be
    as they were. With the first word `on` the program goes on where memory is refused, else it says so and ends. */
@@ -15,13 +16,16 @@ enum { FILLED = 0xa5, MOST = 1 << 22 };
 static hurd_world world = HURD_NO_WORLD;
 static size_t room = 4096;
 static int goes_on;
-static uint8_t *text, *out;
+static uint32_t sort;
+static const char *who = "", *file;
+static uint8_t *text, *named, *out;
 
 /* Gives all up, and ends. */
 static void end(int status)
 {
     hurd_end(&world);
     free(text);
+    free(named);
     free(out);
     exit(status);
 }
@@ -64,64 +68,120 @@ static void fill(void)
 static void give_up(void)
 {
     free(text);
+    free(named);
     free(out);
-    text = out = NULL;
+    text = named = out = NULL;
 }
 
-/* Prints what a text told, and how it ended. */
-static void say(hurd_said said)
+/* Prints how a step ended. */
+static void say_end(hurd_said said)
 {
-    show(said.length < room ? said.length : room);
     if (said.status == HURD_MEMORY && !goes_on)
         lack();
     printf("[status %u error %u line %llu length %zu]\n", (unsigned)said.status, (unsigned)said.error, (unsigned long long)said.line, said.length);
     give_up();
 }
 
+/* Prints what a text told, and how it ended. */
+static void say(hurd_said said)
+{
+    show(said.length < room ? said.length : room);
+    say_end(said);
+}
+
+/* A block of its own with these bytes. */
+static uint8_t *copy(const void *bytes, size_t size)
+{
+    uint8_t *got = block(size);
+    memcpy(got, bytes, size);
+    return got;
+}
+
 /* The text of a step: the rest of the word, or a file's bytes. */
-static size_t take(const char *word, const char *file)
+static size_t take(const char *word)
 {
     if (!file) {
-        size_t size = strlen(word);
-        text = block(size);
-        memcpy(text, word, size);
-        return size;
+        text = copy(word, strlen(word));
+        return strlen(word);
     }
     static uint8_t bytes[MOST];
     FILE *from = fopen(file, "rb");
     size_t size = from ? fread(bytes, 1, sizeof bytes, from) : 0;
     if (from)
         fclose(from);
-    text = block(size);
-    memcpy(text, bytes, size);
+    file = NULL;
+    text = copy(bytes, size);
     return size;
+}
+
+/* What a step says behind its name, if it has this one. */
+static const char *behind(const char *word, const char *name)
+{
+    size_t size = strlen(name);
+    return strncmp(word, name, size) || word[size] != '=' ? NULL : word + size + 1;
+}
+
+/* Makes a step of a whole text, if the word is one. */
+static int step_of_text(const char *word)
+{
+    typedef hurd_said function(uint32_t, const uint8_t *, size_t, const uint8_t *, size_t, uint8_t *, size_t);
+    static const struct { const char *name; function *asks; } all[] = { { "run", NULL }, { "learn", hurd_learn }, { "see", hurd_see }, { "draw", hurd_draw } };
+    for (size_t i = 0; i < sizeof all / sizeof *all; i++) {
+        const char *rest = behind(word, all[i].name);
+        if (!rest)
+            continue;
+        size_t size = take(rest);
+        named = copy(who, strlen(who));
+        fill();
+        say(all[i].asks ? all[i].asks(sort, text, size, named, strlen(who), out, room) : hurd_run(sort, text, size, out, room));
+        return 1;
+    }
+    return 0;
+}
+
+/* Makes a step of a world that is kept, if the word is one. */
+static int step_of_world(const char *word)
+{
+    const char *rest;
+    if (!strcmp(word, "end"))
+        hurd_end(&world);
+    else if ((rest = behind(word, "told"))) {
+        fill();
+        size_t count = hurd_told(&world, strtoul(rest, NULL, 10), out, room);
+        show(count);
+        printf("[%zu]\n", count);
+        give_up();
+    } else if ((rest = behind(word, "begin"))) {
+        size_t size = take(rest);
+        fill();
+        say(hurd_begin(&world, text, size, out, room));
+    } else if ((rest = behind(word, "make"))) {
+        size_t size = take(rest);
+        fill();
+        say(hurd_make(&world, text, size, out, room));
+    } else if ((rest = behind(word, "watch"))) {
+        size_t size = take(rest);
+        say_end(hurd_watch(&world, text, size));
+    } else
+        return 0;
+    return 1;
 }
 
 /* Makes a step. */
 static void step(const char *word)
 {
-    static const char *file;
+    const char *rest;
     if (!strcmp(word, "on"))
         goes_on = 1;
-    else if (!strcmp(word, "end"))
-        hurd_end(&world);
-    else if (!strncmp(word, "room=", 5))
-        room = strtoul(word + 5, NULL, 10);
-    else if (!strncmp(word, "file=", 5))
-        file = word + 5;
-    else if (!strncmp(word, "told=", 5)) {
-        fill();
-        size_t count = hurd_told(&world, strtoul(word + 5, NULL, 10), out, room);
-        show(count);
-        printf("[%zu]\n", count);
-        give_up();
-    } else if (!strncmp(word, "begin=", 6) || !strncmp(word, "make=", 5)) {
-        int is_begin = word[0] == 'b';
-        size_t size = take(word + (is_begin ? 6 : 5), file);
-        file = NULL;
-        fill();
-        say(is_begin ? hurd_begin(&world, text, size, out, room) : hurd_make(&world, text, size, out, room));
-    } else {
+    else if ((rest = behind(word, "room")))
+        room = strtoul(rest, NULL, 10);
+    else if ((rest = behind(word, "sort")))
+        sort = strtoul(rest, NULL, 10);
+    else if ((rest = behind(word, "who")))
+        who = rest;
+    else if ((rest = behind(word, "file")))
+        file = rest;
+    else if (!step_of_world(word) && !step_of_text(word)) {
         printf("no such step: %s\n", word);
         end(3);
     }

@@ -1,7 +1,7 @@
 //! The functions that C calls.
 ghost use Rattle.std.specs.Prelude.{◌≡◌, None, drop, length, min};
-ghost use Rattle.hurd_sitting.specs.Kept.{told_in};
-ghost use Rattle.hurd_c.specs.Ends.{Began, Made, MadeIn, over, told_of};
+ghost use Rattle.hurd_sitting.specs.Kept.{SameWatch, told_in};
+ghost use Rattle.hurd_c.specs.Ends.{Began, BegunWith, KeepsWatch, Made, MadeIn, Watched, WatchedIn, over, told_of};
 
 use crate::handle::Handle;
 use crate::said::{Said, ending, no_world};
@@ -10,7 +10,7 @@ use std::alloc::Global;
 use std::mem::replace;
 
 /// Copies bytes from one on, as far as there is room, and gives how many these are.
-fn copied(bytes: &[u8], from: usize, out: &mut [u8]) -> usize
+pub(crate) fn copied(bytes: &[u8], from: usize, out: &mut [u8]) -> usize
     ensures bytes { out.new ≡ over (drop from bytes.now) out.old }
     ensures count { result ≡ min (length (drop from bytes.now)) (length out.old) }
 {
@@ -26,6 +26,7 @@ fn copied(bytes: &[u8], from: usize, out: &mut [u8]) -> usize
 #[unsafe(no_mangle)]
 pub extern "C" fn hurd_begin(alloc: Global, world: &mut Handle, list: &[u8], out: &mut [u8]) -> Said
     ensures began { Began list.now result world.new.value }
+    ensures tasks { BegunWith list.now world.new.value }
     ensures copied { out.new ≡ over (told_of world.new.value) out.old }
 {
     hurd_end(alloc, world);
@@ -42,22 +43,49 @@ pub extern "C" fn hurd_begin(alloc: Global, world: &mut Handle, list: &[u8], out
 
 /// Makes the calls of a text in a sitting.
 fn made(alloc: Global, sitting: &mut Sitting, calls: &[u8]) -> Said
-    ensures { MadeIn calls.now sitting.old result sitting.new }
+    ensures made { MadeIn calls.now sitting.old result sitting.new }
+    ensures watch { SameWatch sitting.old sitting.new }
 {
     let ended = sitting.make(alloc, calls);
     ending(ended, sitting.told().len())
 }
 
-/// Makes the calls of a text one after another. Keeps what they tell, in the place of what was told before, and copies of that what there is room for.
+/// Makes the calls of a text one after another. Keeps what they tell, and what those learn who are watched, in the place of what was told before, and copies
+/// of that what there is room for.
 #[unsafe(no_mangle)]
 pub extern "C" fn hurd_make(alloc: Global, world: &mut Handle, calls: &[u8], out: &mut [u8]) -> Said
     ensures made { Made calls.now world.old.value result world.new.value }
+    ensures watch { KeepsWatch world.old.value world.new.value }
     ensures copied { out.new ≡ over (told_of world.new.value) out.old }
 {
     match replace(world, Handle::none(alloc)).taken() {
         Some(mut sitting) => {
             let said = made(alloc, &mut sitting, calls);
             copied(sitting.told(), 0, out);
+            *world = Handle::of(sitting);
+            said
+        }
+        None => no_world(),
+    }
+}
+
+/// Watches the tasks that a word names in a sitting.
+fn watched(alloc: Global, sitting: &mut Sitting, who: &[u8]) -> Said
+    ensures { WatchedIn who.now sitting.old result sitting.new }
+{
+    let ended = sitting.watch(alloc, who);
+    ending(ended, sitting.told().len())
+}
+
+/// From now on `hurd_make` tells, behind each call of others, what the tasks learn whose numbers stand in `who` between commas; of no bytes, nothing of that.
+/// What was told before stays told. Where one of them isn't there, or memory is refused, nothing changes.
+#[unsafe(no_mangle)]
+pub extern "C" fn hurd_watch(alloc: Global, world: &mut Handle, who: &[u8]) -> Said
+    ensures { Watched who.now world.old.value result world.new.value }
+{
+    match replace(world, Handle::none(alloc)).taken() {
+        Some(mut sitting) => {
+            let said = watched(alloc, &mut sitting, who);
             *world = Handle::of(sitting);
             said
         }

@@ -1,6 +1,7 @@
 //! How a call of the library ended.
 ghost use Rattle.std.specs.Prelude.{◌≡◌};
 ghost use Rattle.hurd_c.specs.Ends.{said_of, unmade};
+ghost use Rattle.hurd_c.specs.Texts.{unsorted};
 
 use hurd_terminal::Fault;
 
@@ -8,7 +9,8 @@ use hurd_terminal::Fault;
 #[repr(C)]
 #[derive(Clone, Copy, Debug)]
 pub struct Said {
-    /// 0 all was made and told; 1 the text is bad; 2 the world was refused; 3 memory was refused; 4 there is no world.
+    /// 0 all was made and told; 1 the text is bad; 2 the world was refused; 3 memory was refused; 4 there is no world; 5 somebody is named who isn't
+    /// there; 6 there is no sort of texts of this number.
     pub status: u32,
     /// The number of the refusal where the world was refused, else 0.
     pub error: u32,
@@ -26,7 +28,8 @@ pub fn ending(ended: Result<(), Fault>, length: usize) -> Said
         Ok(()) => (0, 0, 0),
         Err(Fault::Bad { line }) => (1, 0, line),
         Err(Fault::Boot(errno)) => (2, errno.number(), 0),
-        Err(Fault::Memory | Fault::Read | Fault::Write | Fault::Unknown) => (3, 0, 0),
+        Err(Fault::Unknown) => (5, 0, 0),
+        Err(Fault::Memory | Fault::Read | Fault::Write) => (3, 0, 0),
     };
     Said {
         status,
@@ -42,6 +45,18 @@ pub fn no_world() -> Said
 {
     Said {
         status: 4,
+        error: 0,
+        line: 0,
+        length: 0,
+    }
+}
+
+/// What is said where there is no such sort of texts.
+pub fn no_sort() -> Said
+    ensures { result ≡ unsorted }
+{
+    Said {
+        status: 6,
         error: 0,
         line: 0,
         length: 0,

@@ -1,3 +1,4 @@
 pub mod Requests
+pub mod Answers
 pub mod Pairs
 pub mod Samples

@@ -37,7 +37,7 @@ fn done_of<T: Telling, W: Write>(
 }
 
 /// The same, by the sort that is asked.
-fn done<W: Write>(
+pub(crate) fn done<W: Write>(
     alloc: Global,
     request: &Request,
     text: &[u8],
@@ -54,7 +54,7 @@ fn done<W: Write>(
 }
 
 /// What is said behind the name of a file whose text is bad. An error is want of memory.
-fn complaint(alloc: Global, sort: TextSort, text: &[u8]) -> Result<Vec<u8>, AllocError>
+pub(crate) fn complaint(alloc: Global, sort: TextSort, text: &[u8]) -> Result<Vec<u8>, AllocError>
     ensures { IfOk result (λ said. said.items ≡ (sort_of sort).complaint text.now) }
 {
     match sort {
@@ -102,7 +102,7 @@ pub(crate) fn named_line(alloc: Global, stranger: &[u8], who: &str) -> Result<Ve
 }
 
 /// The same of what is asked; nothing where nobody is named. An error is want of memory.
-fn stranger_line(alloc: Global, request: &Request) -> Result<Vec<u8>, AllocError>
+pub(crate) fn stranger_line(alloc: Global, request: &Request) -> Result<Vec<u8>, AllocError>
     ensures { IfOk result (λ line. line.items ≡ (asked request.now).stranger) }
 {
     match &request.verb {

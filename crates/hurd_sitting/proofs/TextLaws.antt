@@ -1,5 +1,5 @@
 -- What a list and then a text tell, and what both tell as one list.
-use Rattle.std.proofs.Common.{◌≡◌, ◌∙◌, ◌≤◌, ℕ, false, List, [], ◌∷◌, ◌++◌, Result, Ok, Err, ap, arith, length, nat_lt, refl, sym}
+use Rattle.std.proofs.Common.{◌≡◌, ◌∙◌, ◌≤◌, ℕ, false, List, [], ◌∷◌, ◌++◌, None, Result, Ok, Err, ap, arith, length, nat_lt, refl, sym}
 use Rattle.std.proofs.lemmas.Bool.Decides.{nat_tests}
 use Rattle.hurd_creds.specs.Access.{IdSets}
 use Rattle.hurd_creds.specs.Limits.{most_script}
@@ -26,7 +26,7 @@ calls_said (Ok more) calls e =
 not_long : (n : ℕ) → n ≤ most_script → nat_lt most_script n ≡ false
 not_long n few = grind (arith, nat_tests)
 
-pub texts_one : (list text told more : List ℕ) (w x : World) → Begins list told w → Makes text w more x → length (list ++ 10 ∷ text) ≤ most_script
+pub texts_one : (list text told more : List ℕ) (w x : World) → Begins list told w → Makes None text w more x → length (list ++ 10 ∷ text) ≤ most_script
     → Begins (list ++ 10 ∷ text) (told ++ more) x
 texts_one list text told more w x begins makes few =
     let first = first_world new_tmpfs begins.said.tasks in

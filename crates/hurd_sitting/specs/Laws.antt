@@ -1,5 +1,5 @@
 -- What several texts tell.
-use Rattle.std.specs.Prelude.{◌≡◌, ◌≤◌, ℕ, List, ◌∷◌, ◌++◌, length}
+use Rattle.std.specs.Prelude.{◌≡◌, ◌≤◌, ℕ, List, ◌∷◌, ◌++◌, None, length}
 use Rattle.hurd_creds.specs.Limits.{most_script}
 use Rattle.hurd_lists.specs.Lists.{Listed}
 use Rattle.hurd_machine.specs.World.{World}
@@ -19,4 +19,4 @@ CallsAreOne = (first then : List Listed) (w : World) → AreOne first then w
 -- a list that begins a sitting and a text that is made in it, joined by a newline, begin one in which the same is told and done, if they are not too long together
 abbrev pub TextsAreOne : Type 0
 TextsAreOne = (list text told more : List ℕ) (w x : World)
-    → Begins list told w → Makes text w more x → length (list ++ 10 ∷ text) ≤ most_script → Begins (list ++ 10 ∷ text) (told ++ more) x
+    → Begins list told w → Makes None text w more x → length (list ++ 10 ∷ text) ≤ most_script → Begins (list ++ 10 ∷ text) (told ++ more) x

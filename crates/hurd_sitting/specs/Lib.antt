@@ -1,3 +1,4 @@
 pub mod Sittings
+pub mod Watching
 pub mod Kept
 pub mod Laws

@@ -1,31 +1,121 @@
 //! Making calls one after another, and telling each.
-ghost use Rattle.std.specs.Prelude.{◌≡◌, ◌++◌, IfErr, OnOk};
+ghost use Rattle.std.specs.Prelude.{◌≡◌, ◌⊎◌, ◌∷◌, [], false, Some, IfErr, IfOk, OnOk};
+ghost use Rattle.std.specs.Option.{option_map};
 ghost use Rattle.hurd_kinds.specs.Boxes.{box_meaning};
+ghost use Rattle.hurd_lists.specs.Lists.{listed_by};
+ghost use Rattle.hurd_sight.specs.Reach.{among};
 ghost use Rattle.hurd_world.specs.Held.{world_of};
-ghost use Rattle.hurd_sitting.specs.Sittings.{SomeMade, behind, listed, told_by};
+ghost use Rattle.hurd_calls.specs.Making.{after_call, part_of};
+ghost use Rattle.hurd_teaching.specs.Watched.{SeenOf, Sees};
+ghost use Rattle.hurd_sitting.specs.Sittings.{Adds, SomeMade, Tells, behind, listed};
+ghost use Rattle.hurd_sitting.specs.Watching.{SeenBy};
 
 use hurd_calls::{brought, part};
+use hurd_creds::{Bytes, TaskId};
 use hurd_kinds::ServerBox;
 use hurd_lists::ListedCall;
+use hurd_teaching::{Learners, Watch, paragraph, said};
 use hurd_world::World;
 use std::alloc::{AllocError, Global};
 
-/// Makes calls, each with the server that it brings, and adds what each tells. An error is want of memory: then some first calls were made and told, and
-/// perhaps the next was made.
+/// Makes a call with the server that it brings, and gives what is printed of it. An error is want of memory: then the call was made, or nothing changed.
+fn made(
+    world: &mut World<ServerBox>,
+    alloc: Global,
+    listed: ListedCall<ServerBox>,
+) -> Result<Bytes, AllocError>
+    ensures part { IfOk result (λ part. part ≡ part_of (listed_by box_meaning listed) (world_of box_meaning world.old)) }
+    ensures world { OnOk result (world_of box_meaning world.new ≡ after_call (listed_by box_meaning listed) (world_of box_meaning world.old)) }
+    ensures err { IfErr result (λ _. (world_of box_meaning world.new ≡ world_of box_meaning world.old)
+        ⊎ (world_of box_meaning world.new ≡ after_call (listed_by box_meaning listed) (world_of box_meaning world.old))) }
+{
+    let server = brought(alloc, &listed.server)?;
+    part(world, alloc, listed, server)
+}
+
+/// Whether a task is one of these, of which nothing is said. Before any other's call it is looked at what these see, unless that was done. An error is want of
+/// memory.
+fn looked(
+    alloc: Global,
+    world: &World<ServerBox>,
+    task: TaskId,
+    learners: &Learners,
+    watch: &mut Watch,
+) -> Result<bool, AllocError>
+    requires { SeenOf learners.now.tasks.items (world_of box_meaning world.now) watch.old.seen }
+    ensures quiet { IfOk result (λ quiet. quiet ≡ among learners.now.tasks.items task.0) }
+    ensures sees { IfOk result (λ quiet. quiet ≡ false → Sees learners.now.tasks.items (world_of box_meaning world.now) watch.new.seen) }
+{
+    let quiet = learners.have(task);
+    if !quiet {
+        watch.look(alloc, world, learners.tasks.as_slice())?;
+    }
+    Ok(quiet)
+}
+
+/// Makes a call, and gives its paragraph: what is printed of it, and what these learn by it where it is another's. An error is want of memory: then the call
+/// was made, or nothing changed.
+fn paragraph_of(
+    world: &mut World<ServerBox>,
+    alloc: Global,
+    listed: ListedCall<ServerBox>,
+    learners: &Learners,
+    watch: &mut Watch,
+) -> Result<Vec<u8>, AllocError>
+    requires { SeenOf learners.now.tasks.items (world_of box_meaning world.old) watch.old.seen }
+    ensures tells { IfOk result (λ text. Tells (Some learners.now) (listed_by box_meaning listed ∷ []) (world_of box_meaning world.old) text.items) }
+    ensures seen { OnOk result (SeenOf learners.now.tasks.items (world_of box_meaning world.new) watch.new.seen) }
+    ensures world { OnOk result (world_of box_meaning world.new ≡ after_call (listed_by box_meaning listed) (world_of box_meaning world.old)) }
+    ensures err { IfErr result (λ _. (world_of box_meaning world.new ≡ world_of box_meaning world.old)
+        ⊎ (world_of box_meaning world.new ≡ after_call (listed_by box_meaning listed) (world_of box_meaning world.old))) }
+{
+    let quiet = looked(alloc, world, listed.task, learners, watch)?;
+    let part = made(world, alloc, listed)?;
+    let said = said(alloc, world, learners, watch, quiet)?;
+    let shown = Bytes::new(Vec::new(alloc));
+    paragraph(alloc, &part, &said, &shown)
+}
+
+/// Makes a call, and gives what it tells: its paragraph where some are told what they learn. An error is want of memory: then the call was made, or nothing
+/// changed.
+fn text_of(
+    world: &mut World<ServerBox>,
+    alloc: Global,
+    listed: ListedCall<ServerBox>,
+    learners: &Option<Box<Learners>>,
+    watch: &mut Watch,
+) -> Result<Vec<u8>, AllocError>
+    requires { SeenBy (option_map (λ v. v.value) learners.now) (world_of box_meaning world.old) watch.old.seen }
+    ensures tells { IfOk result (λ text. Tells (option_map (λ v. v.value) learners.now) (listed_by box_meaning listed ∷ []) (world_of box_meaning world.old) text.items) }
+    ensures seen { OnOk result (SeenBy (option_map (λ v. v.value) learners.now) (world_of box_meaning world.new) watch.new.seen) }
+    ensures world { OnOk result (world_of box_meaning world.new ≡ after_call (listed_by box_meaning listed) (world_of box_meaning world.old)) }
+    ensures err { IfErr result (λ _. (world_of box_meaning world.new ≡ world_of box_meaning world.old)
+        ⊎ (world_of box_meaning world.new ≡ after_call (listed_by box_meaning listed) (world_of box_meaning world.old))) }
+{
+    match learners {
+        Some(learners) => paragraph_of(world, alloc, listed, learners, watch),
+        None => Ok(made(world, alloc, listed)?.into_vec()),
+    }
+}
+
+/// Makes calls one after another, and adds what each tells. An error is want of memory: then some first calls were made and told, and perhaps the next was
+/// made.
 pub(crate) fn make_all(
     world: &mut World<ServerBox>,
     alloc: Global,
     calls: Vec<ListedCall<ServerBox>>,
+    learners: &Option<Box<Learners>>,
     told: &mut Vec<u8>,
 ) -> Result<(), AllocError>
-    ensures told { OnOk result (told.new.items ≡ told.old.items ++ told_by (listed calls.items) (world_of box_meaning world.old)) }
+    ensures told { OnOk result (Adds (option_map (λ v. v.value) learners.now) (listed calls.items) (world_of box_meaning world.old) told.old.items told.new.items) }
     ensures world { OnOk result (world_of box_meaning world.new ≡ behind (listed calls.items) (world_of box_meaning world.old)) }
-    ensures err { IfErr result (λ _. SomeMade (listed calls.items) (world_of box_meaning world.old) told.old.items told.new.items (world_of box_meaning world.new)) }
+    ensures err { IfErr result (λ _. SomeMade (option_map (λ v. v.value) learners.now) (listed calls.items) (world_of box_meaning world.old)
+        told.old.items told.new.items (world_of box_meaning world.new)) }
 {
+    let mut watch = Watch::new();
     for listed in calls {
-        let server = brought(alloc, &listed.server)?;
-        let part = part(world, alloc, listed, server)?;
-        told.extend_from_slice(part.as_slice())?;
+        let text = text_of(world, alloc, listed, learners, &mut watch)?;
+        told.extend_from_slice(text.as_slice())?;
     }
     Ok(())
 }

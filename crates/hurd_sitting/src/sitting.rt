@@ -1,26 +1,33 @@
 //! A world that is kept, with what the last text told.
-ghost use Rattle.std.specs.Prelude.{◌≡◌, IfErr, IfOk, OnOk};
+ghost use Rattle.std.specs.Prelude.{◌≡◌, None, IfErr, IfOk, OnOk, length};
 ghost use Rattle.hurd_kinds.specs.Boxes.{box_meaning};
+ghost use Rattle.hurd_lists.specs.Lists.{reading_of};
 ghost use Rattle.hurd_calls.specs.Lists.{lists};
+ghost use Rattle.hurd_calls.specs.Readings.{said_in};
 ghost use Rattle.hurd_dialogue.specs.Sorts.{NotBegun};
 ghost use Rattle.hurd_world.specs.Held.{world_of};
 ghost use Rattle.hurd_sitting.specs.Sittings.{Begins, Makes, NotMade};
-ghost use Rattle.hurd_sitting.specs.Kept.{told_in, world_in};
+ghost use Rattle.hurd_sitting.specs.Kept.{SameStand, SameWatch, learners_in, tasks_in, told_in, world_in};
+ghost use Rattle.hurd_sitting.specs.Watching.{NotWatched, Watches};
 
 use crate::making::make_all;
+use crate::naming::watched;
 use hurd_calls::{begun, parsed};
 use hurd_dialogue::boxed;
 use hurd_kinds::{ServerBox, empty_tree};
 use hurd_lists::CallList;
+use hurd_teaching::Learners;
 use hurd_terminal::Fault;
 use hurd_world::World;
 use std::alloc::Global;
 
-/// A world that is kept, and what the last text told.
+/// A world that is kept, what the last text told, who is told what they learn, and how many tasks there are.
 #[derive(Drop)]
 pub struct Sitting {
     world: Box<World<ServerBox>>,
     told: Vec<u8>,
+    learners: Option<Box<Learners>>,
+    tasks: usize,
 }
 
 impl Sitting {
@@ -30,33 +37,62 @@ impl Sitting {
     #[tactic(auto, unfolding(hurd_kinds::specs::Boxes::box_meaning))]
     pub fn begun(alloc: Global, list: &[u8]) -> Result<Box<Sitting>, Fault>
         ensures ok { IfOk result (λ sitting. Begins list.now (told_in sitting.value) (world_in sitting.value)) }
+        ensures tasks { IfOk result (λ sitting. tasks_in sitting.value ≡ length (said_in (reading_of list.now)).tasks) }
+        ensures learners { IfOk result (λ sitting. learners_in sitting.value ≡ None) }
         ensures err { IfErr result (λ fault. NotBegun lists list.now fault) }
     {
         let CallList { tasks, calls } = parsed(alloc, list)?;
+        let count = tasks.len();
         let root = ServerBox::Tmpfs(empty_tree(alloc)?);
         let mut world = begun(alloc, root, tasks)?;
         let mut told = Vec::new(alloc);
-        make_all(&mut world, alloc, calls, &mut told)?;
-        Ok(boxed(alloc, Sitting { world, told })?)
+        make_all(&mut world, alloc, calls, &None, &mut told)?;
+        let sitting = Sitting {
+            world,
+            told,
+            learners: None,
+            tasks: count,
+        };
+        Ok(boxed(alloc, sitting)?)
     }
 
-    /// Makes the calls of a text of calls alone.
+    /// Makes the calls of a text of calls alone. Where tasks are watched it tells a paragraph for each, with what these learn of others' calls.
     ///
     /// Errors: `Bad` with the line at which the text is bad, and with line 0 where it is too long or has a `task` line: then nothing is made or told.
     /// `Memory`: then nothing is made or told, or some first calls are made and told, and perhaps the next is made. The world stays usable.
     pub fn make(&mut self, alloc: Global, calls: &[u8]) -> Result<(), Fault>
-        ensures ok { OnOk result (Makes calls.now (world_in self.old) (told_in self.new) (world_in self.new)) }
-        ensures err { IfErr result (λ fault. NotMade calls.now fault (world_in self.old) (told_in self.new) (world_in self.new)) }
+        ensures ok { OnOk result (Makes (learners_in self.old) calls.now (world_in self.old) (told_in self.new) (world_in self.new)) }
+        ensures err { IfErr result (λ fault. NotMade (learners_in self.old) calls.now fault (world_in self.old) (told_in self.new) (world_in self.new)) }
+        ensures watch { SameWatch self.old self.new }
     {
         self.told.clear();
         let CallList { tasks, calls } = parsed(alloc, calls)?;
         if !tasks.is_empty() {
             return Err(Fault::Bad { line: 0 });
         }
-        Ok(make_all(&mut self.world, alloc, calls, &mut self.told)?)
+        Ok(make_all(
+            &mut self.world,
+            alloc,
+            calls,
+            &self.learners,
+            &mut self.told,
+        )?)
     }
 
-    /// What the last text told: each call's line and reply, as `hurd run --calls` prints it.
+    /// From now on `make` tells what the tasks learn whose numbers stand in `who` between commas; nothing of that where it has no bytes.
+    ///
+    /// Errors, in order: `Unknown` where one of them isn't there; `Memory` at any point. Then nothing changes.
+    pub fn watch(&mut self, alloc: Global, who: &[u8]) -> Result<(), Fault>
+        ensures ok { OnOk result (Watches (tasks_in self.old) who.now (learners_in self.new)) }
+        ensures err { IfErr result (λ fault. NotWatched (tasks_in self.old) who.now fault × (self.new ≡ self.old)) }
+        ensures stand { SameStand self.old self.new }
+    {
+        self.learners = watched(alloc, self.tasks, who)?;
+        Ok(())
+    }
+
+    /// What the last text told: each call's line and reply, as `hurd run --calls` prints it. Where tasks were watched, a paragraph for each, as
+    /// `hurd learns --calls` prints it.
     pub fn told(&self) -> &[u8]
         ensures { result.now ≡ told_in self.now }
     {

@@ -1,0 +1,135 @@
+//! Whole texts: what C calls to have one told in a world of its own.
+ghost use Rattle.std.specs.Prelude.{◌≡◌, IsUtf8, MatchResult, option_map, string_bytes};
+ghost use Rattle.hurd_dialogue.specs.Sorts.{running};
+ghost use Rattle.hurd_drawing.specs.Drawings.{drawing};
+ghost use Rattle.hurd_program.specs.Requests.{asked, sort_of};
+ghost use Rattle.hurd_teaching.specs.Programs.{learning, seeing};
+ghost use Rattle.hurd_c.specs.Texts.{Copies, IsUnnamed, OfSome, OfSort, marked_in, sort_at};
+
+use crate::exports::copied;
+use crate::said::{Said, ending, no_sort};
+use hurd_program::{Request, TextSort, Verb, answer_text};
+use hurd_terminal::Fault;
+use std::alloc::Global;
+
+/// The sort of texts of a number.
+fn sort_at(number: u32) -> Option<TextSort>
+    ensures { option_map sort_of result ≡ sort_at number }
+{
+    match number {
+        0 => Some(TextSort::Script),
+        1 => Some(TextSort::Calls),
+        _ => None,
+    }
+}
+
+/// A word that names some. `Unknown` where it is no UTF-8, since that names nobody; `Memory`.
+fn named(alloc: Global, who: &[u8]) -> Result<String, Fault>
+    ensures { MatchResult result (λ word. (string_bytes word ≡ who.now) × IsUtf8 who.now) (λ fault. IsUnnamed who.now fault) }
+{
+    match str::from_utf8(who) {
+        Ok(who) => Ok(String::from_str(alloc, who)?),
+        Err(_) => Err(Fault::Unknown),
+    }
+}
+
+/// A word that names those whose sight is marked, if there is one. Faults as of `named`.
+fn marked(alloc: Global, who: &[u8]) -> Result<Option<String>, Fault>
+    ensures { MatchResult result (λ word. (option_map string_bytes word ≡ marked_in who.now) × IsUtf8 who.now) (λ fault. IsUnnamed who.now fault) }
+{
+    if who.is_empty() {
+        return Ok(None);
+    }
+    Ok(Some(named(alloc, who)?))
+}
+
+/// Does what is asked of a text, and copies what is told as far as there is room.
+fn told(alloc: Global, request: &Request, text: &[u8], out: &mut [u8]) -> Said
+    ensures { Copies (asked request.now) text.now result out.old out.new }
+{
+    let answer = answer_text(alloc, request, text);
+    copied(answer.told.as_slice(), 0, out);
+    ending(answer.ended, answer.told.len())
+}
+
+/// Runs a text in a world of its own, and copies what it tells as far as there is room. Of a bad text that is what stands behind the name of a file.
+#[unsafe(no_mangle)]
+pub extern "C" fn hurd_run(alloc: Global, sort: u32, text: &[u8], out: &mut [u8]) -> Said
+    ensures { OfSort sort running text.now result out.old out.new }
+{
+    let Some(sort) = sort_at(sort) else {
+        return no_sort();
+    };
+    let verb = Verb::Run;
+    told(alloc, &Request { sort, verb }, text, out)
+}
+
+/// The same, with what those learn whom a word names: users by their names, or tasks by their numbers, between commas. Where one of them isn't in the text,
+/// what stands behind the name of a file is copied.
+#[unsafe(no_mangle)]
+pub extern "C" fn hurd_learn(
+    alloc: Global,
+    sort: u32,
+    text: &[u8],
+    who: &[u8],
+    out: &mut [u8],
+) -> Said
+    ensures { OfSome who.now sort (λ s. learning s who.now) text.now result out.old out.new }
+{
+    let Some(sort) = sort_at(sort) else {
+        return no_sort();
+    };
+    match named(alloc, who) {
+        Ok(who) => {
+            let verb = Verb::Learns { who };
+            told(alloc, &Request { sort, verb }, text, out)
+        }
+        Err(fault) => ending(Err(fault), 0),
+    }
+}
+
+/// The same of all that those see at the end of a text.
+#[unsafe(no_mangle)]
+pub extern "C" fn hurd_see(
+    alloc: Global,
+    sort: u32,
+    text: &[u8],
+    who: &[u8],
+    out: &mut [u8],
+) -> Said
+    ensures { OfSome who.now sort (λ s. seeing s who.now) text.now result out.old out.new }
+{
+    let Some(sort) = sort_at(sort) else {
+        return no_sort();
+    };
+    match named(alloc, who) {
+        Ok(who) => {
+            let verb = Verb::Sees { who };
+            told(alloc, &Request { sort, verb }, text, out)
+        }
+        Err(fault) => ending(Err(fault), 0),
+    }
+}
+
+/// The same of a picture of the world at the end of a text. What those see whom a word names is marked; nobody's sight is where it has no bytes.
+#[unsafe(no_mangle)]
+pub extern "C" fn hurd_draw(
+    alloc: Global,
+    sort: u32,
+    text: &[u8],
+    who: &[u8],
+    out: &mut [u8],
+) -> Said
+    ensures { OfSome who.now sort (λ s. drawing s (marked_in who.now)) text.now result out.old out.new }
+{
+    let Some(sort) = sort_at(sort) else {
+        return no_sort();
+    };
+    match marked(alloc, who) {
+        Ok(who) => {
+            let verb = Verb::Draws { who };
+            told(alloc, &Request { sort, verb }, text, out)
+        }
+        Err(fault) => ending(Err(fault), 0),
+    }
+}

@@ -1,0 +1,116 @@
+-- What calls tell those who are told what they learn, in several texts and in one.
+use Rattle.std.proofs.Common.{◌≡◌, ◌∙◌, ◌||◌, ◌+◌, ℕ, Bool, false, not, List, [], ◌∷◌, ◌++◌, Option, Some, None, Result, Ok, Err, Vec, Global, ap, append-nil, append_assoc, arith, nat_lt, refl, subst, sym}
+use Rattle.std.specs.Prelude.{IfOk, OnOk}
+use Rattle.std.proofs.lemmas.Bool.Decides.{nat_tests}
+use Rattle.hurd_creds.specs.declared.name.TaskId.{TaskId}
+use Rattle.hurd_lists.specs.Lists.{Listed}
+use Rattle.hurd_machine.specs.World.{World}
+use Rattle.hurd_sight.specs.Reach.{among}
+use Rattle.hurd_views.specs.declared.view.View.{View}
+use Rattle.hurd_dialogue.specs.Parts.{Part, world_behind}
+use Rattle.hurd_calls.specs.Making.{after_call, part_of, parts_of}
+use Rattle.hurd_sentences.specs.Turns.{paragraph}
+use Rattle.hurd_lessons.specs.Told.{Lesson, Said}
+use Rattle.hurd_teaching.specs.Learners.{is_quiet}
+use Rattle.hurd_teaching.specs.Lessons.{LessonsOf, told_text}
+use Rattle.hurd_teaching.specs.Telling.{SaysOf, Shows}
+use Rattle.hurd_teaching.specs.Watched.{SeenOf, Sees}
+use Rattle.hurd_teaching.specs.declared.learners.Learners.{Learners}
+use Rattle.hurd_teaching.proofs.StepLaws.{kept_here, lesson}
+use Rattle.hurd_sitting.specs.Sittings.{Tells, at_once, behind, told_by}
+use Rattle.hurd_sitting.proofs.PartLaws.{as_one, none_told, one_told}
+
+-- lessons have begun, however many calls were made
+begun : (n : ℕ) → nat_lt n 0 ≡ false
+begun n = grind (arith, nat_tests)
+
+quiet_anywhere : (tasks : List TaskId) (n task : ℕ) → is_quiet tasks 0 n task ≡ among tasks task
+quiet_anywhere tasks n task = ap (λ (b : Bool). b || among tasks task) (begun n)
+
+module _ (l : Learners) where
+  -- lessons are the same, however many calls were made before them
+  anywhere : (m n : ℕ) (w : World) (ps : List Part) (said : List Said) → LessonsOf l.tasks.items (at_once l) m w ps said → LessonsOf l.tasks.items (at_once l) n w ps said
+  anywhere m n w [] said none = none
+  anywhere m n w (p ∷ ps) said (text, shown, more, is, lesson, shows, rest) =
+      let same : is_quiet l.tasks.items 0 m p.task ≡ is_quiet l.tasks.items 0 n p.task = quiet_anywhere l.tasks.items m p.task ∙ sym (quiet_anywhere l.tasks.items n p.task) in (
+        text,
+        shown,
+        more,
+        is ∙ ap (λ (b : Bool). record { counts = not b; text = text; shown = shown } ∷ more) same,
+        subst (λ (b : Bool). Lesson l.tasks.items l.who.items b w p.world text) same lesson,
+        shows,
+        anywhere (m + 1) (n + 1) p.world ps more rest,
+      )
+
+  -- of some parts, and then of others
+  abbrev Apart : ℕ → World → List Part → List Part → List Said → List Said → Type 0
+  Apart n w ps qs xs ys = LessonsOf l.tasks.items (at_once l) n w (ps ++ qs) (xs ++ ys) × (told_text (ps ++ qs) (xs ++ ys) ≡ told_text ps xs ++ told_text qs ys)
+
+  lessons_apart : (n : ℕ) (w : World) (ps qs : List Part) (xs ys : List Said) → LessonsOf l.tasks.items (at_once l) n w ps xs
+      → LessonsOf l.tasks.items (at_once l) 0 (world_behind w ps) qs ys → Apart n w ps qs xs ys
+  unfolding world_behind
+  lessons_apart n w [] qs xs ys none later = rw none (anywhere 0 n w qs ys later, refl)
+  lessons_apart n w (p ∷ ps) qs xs ys (text, shown, more, is, lesson, shows, rest) later =
+      let both = lessons_apart (n + 1) p.world ps qs more ys rest later in
+      let here = paragraph p.text (text ++ shown) in
+      rw is (
+        (text, shown, more ++ ys, refl, lesson, shows, both.0),
+        ap (λ (bs : List ℕ). here ++ bs) both.1 ∙ sym (append_assoc here (told_text ps more) (told_text qs ys)),
+      )
+
+-- what calls tell, and then others in the world behind them, all of them tell as one list
+pub tells_one : (who : Option Learners) (first then : List Listed) (w : World) (text more : List ℕ) → Tells who first w text → Tells who then (behind first w) more
+    → Tells who (first ++ then) w (text ++ more)
+tells_one None first then w text more tells next =
+    ap (λ (bs : List ℕ). bs ++ more) tells ∙ (ap (λ (bs : List ℕ). told_by first w ++ bs) next ∙ sym (as_one first then w).tells)
+tells_one (Some l) first then w text more (xs, lessons, is) (ys, later, next) =
+    let both = lessons_apart l 0 w (parts_of first w) (parts_of then (behind first w)) xs ys lessons later in (
+      xs ++ ys,
+      subst (λ (ps : List Part). LessonsOf l.tasks.items (at_once l) 0 w ps (xs ++ ys)) (sym (as_one first then w).parts) both.0,
+      ap (λ (bs : List ℕ). bs ++ more) is ∙ (ap (λ (bs : List ℕ). told_text (parts_of first w) xs ++ bs) next
+          ∙ (sym both.1 ∙ ap (λ (ps : List Part). told_text ps (xs ++ ys)) (sym (as_one first then w).parts))),
+    )
+
+-- no call tells anything
+pub none_tells : (who : Option Learners) (w : World) → Tells who [] w []
+unfolding parts_of
+none_tells None w = sym (none_told w)
+none_tells (Some l) w = ([], refl, refl)
+
+-- one call tells its part
+pub part_tells : (c : Listed) (w : World) (text : List ℕ) → text ≡ part_of c w → Tells None (c ∷ []) w text
+part_tells c w text is = is ∙ sym (one_told c w)
+
+-- or its paragraph, with what these learn of it
+pub paragraph_tells : (l : Learners) (c : Listed) (w x : World) (quiet : Bool) (before after : Option View) (said text : List ℕ) → quiet ≡ among l.tasks.items c.task.0
+    → (quiet ≡ false → Sees l.tasks.items w before) → x ≡ after_call c w → SaysOf l.tasks.items l.who.items quiet x before after said → text ≡ paragraph (part_of c w) (said ++ [])
+    → Tells (Some l) (c ∷ []) w text
+unfolding parts_of
+paragraph_tells l c w x quiet before after said text is sees made says prints =
+    let same : quiet ≡ is_quiet l.tasks.items 0 0 c.task.0 = is ∙ sym (quiet_anywhere l.tasks.items 0 c.task.0) in
+    let learned : Lesson l.tasks.items l.who.items quiet w x said = lesson l.tasks.items (at_once l) w x quiet before after said sees says in (
+      record { counts = not (is_quiet l.tasks.items 0 0 c.task.0); text = said; shown = [] } ∷ [],
+      (
+        said,
+        [],
+        [],
+        refl,
+        subst (λ (b : Bool). Lesson l.tasks.items l.who.items b w (after_call c w) said) same (subst (λ (y : World). Lesson l.tasks.items l.who.items quiet w y said) made learned),
+        refl,
+        refl,
+      ),
+      prints ∙ sym (append-nil (paragraph (part_of c w) (said ++ []))),
+    )
+
+-- whether or not it was printed
+pub paragraph_told : {E : Type 0} (l : Learners) (c : Listed) (w x : World) (quiet : Bool) (before after : Option View) (said part shown : List ℕ) (r : Result (Vec ℕ Global) E)
+    → quiet ≡ among l.tasks.items c.task.0 → (quiet ≡ false → Sees l.tasks.items w before) → x ≡ after_call c w → SaysOf l.tasks.items l.who.items quiet x before after said → part ≡ part_of c w
+    → shown ≡ [] → IfOk r (λ text. text.items ≡ paragraph part (said ++ shown)) → IfOk r (λ text. Tells (Some l) (c ∷ []) w text.items)
+paragraph_told l c w x quiet before after said part shown (Err e) is sees made says here none printed = tt
+paragraph_told l c w x quiet before after said part shown (Ok text) is sees made says here none printed =
+    paragraph_tells l c w x quiet before after said text.items is sees made says (printed ∙ (λ i. paragraph (here i) (said ++ none i)))
+
+pub still_seen : {A E : Type 0} (l : Learners) (x : World) (quiet : Bool) (before after : Option View) (said : List ℕ) (r : Result A E) → SaysOf l.tasks.items l.who.items quiet x before after said
+    → OnOk r (SeenOf l.tasks.items x after)
+still_seen l x quiet before after said (Err e) says = tt
+still_seen l x quiet before after said (Ok a) says = kept_here l.tasks.items (at_once l) x quiet before after said says
