@@ -1,0 +1,342 @@
+r"""The tree from Python: texts go in, and what they tell comes out.
+
+    import hurd
+
+    print(hurd.run("root put /motd Welcome\\n\nroot cat /motd\n"))      # a script, in a world of its own
+    with hurd.World("task 0 0\ntask 1000 1000\n") as world:             # a world that is kept
+        print(world.make("0 dir_mkdir 1 =tmp 1777"))                    # a call, or many lines of them
+
+A text is `str` or `bytes`. A `str` goes in as UTF-8, and so comes what is told. Bytes that are no UTF-8 are escaped as Python's `surrogateescape` does, both ways: so none is
+lost. A NUL byte is a byte as any other.
+
+The library is the file `libhurd.so` beside this module, or the one that the environment variable HURD_LIBRARY names. What its functions do, and what of them is proved,
+stands in docs/EMBED.md; the language of the texts in docs/PROFILE.md.
+"""
+from __future__ import annotations
+
+import ctypes
+import enum
+import os
+import threading
+from typing import Any, List, NoReturn, Tuple, Union
+
+__all__ = ["BadText", "HurdError", "NoMemory", "NoSort", "NoWorld", "Refused", "Sort", "Unknown", "World", "draw", "learn", "run", "see"]
+
+Text = Union[str, bytes]
+
+
+class Sort(enum.IntEnum):
+    """What a text is: a script of users' commands, or a list of tasks' calls."""
+
+    SCRIPT = 0
+    CALLS = 1
+
+
+class HurdError(Exception):
+    """Something that the library refused."""
+
+
+class BadText(HurdError):
+    """A text is bad, and nothing of it was done.
+
+    `line` is the first bad one. It is 0 where the text is too long, or where a world that is there is given a task.
+    `reason` says why. It is empty where the library gives none, as it does of a world's texts.
+    """
+
+    def __init__(self, line: int, reason: str) -> None:
+        self.line, self.reason = line, reason
+        super().__init__(reason or (f"line {line} is bad" if line else "the text is too long, or has a task where none may be"))
+
+
+class Refused(HurdError):
+    """No world was begun, by the refusal of number `error`."""
+
+    def __init__(self, error: int) -> None:
+        self.error = error
+        super().__init__(f"no world was begun: error {error}")
+
+
+class NoMemory(HurdError):
+    """Memory was refused. `told` is what was told before that.
+
+    Of a world the first calls were made and told, and perhaps the next was made. It can still be used.
+    """
+
+    def __init__(self, told: str) -> None:
+        self.told = told
+        super().__init__("out of memory")
+
+
+class NoWorld(HurdError):
+    """There is no world: it was closed, or never begun."""
+
+    def __init__(self) -> None:
+        super().__init__("there is no world")
+
+
+class Unknown(HurdError):
+    """Somebody in `who` isn't there. `reason` says it as the command does, where the library gives that."""
+
+    def __init__(self, who: str, reason: str) -> None:
+        self.who, self.reason = who, reason
+        super().__init__(reason or f"not all of these are there: {who}")
+
+
+class NoSort(HurdError):
+    """There is no sort of texts of this number."""
+
+    def __init__(self) -> None:
+        super().__init__("there is no such sort of texts")
+
+
+class _World(ctypes.Structure):
+    """`hurd_world` of hurd.h."""
+
+    _fields_ = [("at", ctypes.c_void_p)]
+
+
+class _Said(ctypes.Structure):
+    """`hurd_said` of hurd.h."""
+
+    _fields_ = [("status", ctypes.c_uint32), ("error", ctypes.c_uint32), ("line", ctypes.c_uint64), ("length", ctypes.c_size_t)]
+
+
+class _Status(enum.IntEnum):
+    """How a call of the library ended, as hurd.h says. Only DONE is 0."""
+
+    DONE = 0
+    BAD = 1
+    REFUSED = 2
+    MEMORY = 3
+    NONE = 4
+    UNKNOWN = 5
+    NO_SORT = 6
+
+
+_HELD = ctypes.POINTER(_World)
+_BYTES = [ctypes.c_char_p, ctypes.c_size_t]
+_SORT = [ctypes.c_uint32]
+# The functions of hurd.h: what each gives, and what it takes.
+_FUNCTIONS = {
+    "hurd_begin": (_Said, [_HELD, *_BYTES, *_BYTES]),
+    "hurd_make": (_Said, [_HELD, *_BYTES, *_BYTES]),
+    "hurd_told": (ctypes.c_size_t, [_HELD, ctypes.c_size_t, *_BYTES]),
+    "hurd_watch": (_Said, [_HELD, *_BYTES]),
+    "hurd_end": (None, [_HELD]),
+    "hurd_run": (_Said, [*_SORT, *_BYTES, *_BYTES]),
+    "hurd_learn": (_Said, [*_SORT, *_BYTES, *_BYTES, *_BYTES]),
+    "hurd_see": (_Said, [*_SORT, *_BYTES, *_BYTES, *_BYTES]),
+    "hurd_draw": (_Said, [*_SORT, *_BYTES, *_BYTES, *_BYTES]),
+}
+
+
+def _load() -> ctypes.CDLL:
+    """The library, with the types of its functions. Raises OSError where it isn't there, or lacks one of them."""
+    path = os.environ.get("HURD_LIBRARY") or os.path.join(os.path.dirname(os.path.abspath(__file__)), "libhurd.so")
+    try:
+        library = ctypes.CDLL(os.path.abspath(path))
+        for name, (result, kinds) in _FUNCTIONS.items():
+            function = getattr(library, name)
+            function.restype, function.argtypes = result, kinds
+    except (OSError, AttributeError) as error:
+        raise OSError(f"the library can't be used: {error}. Make it by examples/python/build, or name one in HURD_LIBRARY.") from error
+    return library
+
+
+_library = _load()
+
+# What there is room for at first, of a world and of a text. A longer one costs a second call.
+_WORLD_ROOM = 4096
+_TEXT_ROOM = 65536
+
+
+def _bytes_of(text: Text) -> bytes:
+    """The bytes of a text. Raises TypeError where it is none, UnicodeEncodeError of a surrogate that stands for no byte."""
+    if isinstance(text, bytes):
+        return text
+    if isinstance(text, str):
+        return text.encode("utf-8", "surrogateescape")
+    raise TypeError(f"a text is str or bytes, not {type(text).__name__}")
+
+
+def _text_of(told: bytes) -> str:
+    """What was told, as text that loses no byte."""
+    return told.decode("utf-8", "surrogateescape")
+
+
+def _reason_of(told: str) -> str:
+    """Why something is refused: the library says it as it stands behind the name of a file."""
+    return told.lstrip(": ").rstrip("\n")
+
+
+def _fail(said: _Said, told: str, who: bytes) -> NoReturn:
+    """Raises what the library says by a status that isn't DONE."""
+    if said.status == _Status.BAD:
+        raise BadText(said.line, _reason_of(told))
+    if said.status == _Status.REFUSED:
+        raise Refused(said.error)
+    if said.status == _Status.MEMORY:
+        raise NoMemory(told)
+    if said.status == _Status.NONE:
+        raise NoWorld
+    if said.status == _Status.UNKNOWN:
+        raise Unknown(_text_of(who), _reason_of(told))
+    if said.status == _Status.NO_SORT:
+        raise NoSort
+    raise HurdError(f"the library gives the status {said.status}, which this module doesn't know")
+
+
+class World:
+    r"""A world of tasks over an empty tree in memory, which lasts until it is closed.
+
+    It stays on the thread that began it: a method that is called on another one raises RuntimeError. No method is called in a child of `os.fork` of a program with threads.
+    It keeps the texts that it was given, for `fork`. Of a world that no name holds any more the memory is given back as by `close`, if that happens on its thread.
+
+        with hurd.World("task 0 0\ntask 1000 1000\n") as world:
+            world.learn("1")
+            print(world.make("0 dir_mkdir 1 =tmp 1777"))
+    """
+
+    def __init__(self, text: Text) -> None:
+        """Begins the world of a list's tasks, and makes the list's calls; `told` is what these tell.
+
+        Raises BadText, Refused, NoMemory; TypeError of what is no text.
+        """
+        self._world = _World()
+        self._thread = threading.get_ident()
+        self._room = ctypes.create_string_buffer(_WORLD_ROOM)
+        self._told = ""
+        # What `fork` does once more: the first text, and each method with what it was given; and whether that is all.
+        self._first = _bytes_of(text)
+        self._steps: List[Tuple[str, bytes]] = []
+        self._is_known = True
+        self._tell(_library.hurd_begin, self._first)
+
+    def make(self, calls: Text) -> str:
+        """Makes the calls of a text, a line each, and gives what they tell: of each its line, and its reply behind two spaces.
+
+        Raises BadText, and then no call was made; NoMemory; NoWorld; TypeError of what is no text.
+        """
+        text = _bytes_of(calls)
+        told = self._tell(_library.hurd_make, text)
+        self._steps.append(("make", text))
+        return told
+
+    def learn(self, who: Text = "") -> None:
+        """From now on `make` tells, behind each call of others, what the tasks of `who` learn: numbers with commas between them. Of nobody: no longer.
+
+        Raises NoWorld; Unknown of a task that isn't there, and then who was watched before still is; NoMemory; TypeError of what is no text.
+        """
+        names = _bytes_of(who)
+        said = _library.hurd_watch(self._held(), names, len(names))
+        if said.status:
+            self._fail(said, "", names)
+        self._steps.append(("learn", names))
+
+    @property
+    def told(self) -> str:
+        """What the last text told. Raises NoWorld of a closed world."""
+        self._held()
+        if not self._world.at:
+            raise NoWorld
+        return self._told
+
+    def fork(self) -> World:
+        """Another world, to which the same was done: its texts are made once more, so it costs as much as they did.
+
+        Raises NoWorld; NoMemory; HurdError where memory was refused to this one, since then it isn't known which calls were made.
+        """
+        told = self.told
+        if not self._is_known:
+            raise HurdError("memory was refused to this world, and it isn't known which of its calls were made")
+        other = World(self._first)
+        for method, given in self._steps:
+            getattr(other, method)(given)
+        other._told = told
+        return other
+
+    def close(self) -> None:
+        """Lets the world go. What is asked of it afterwards raises NoWorld; to close it once more does nothing."""
+        _library.hurd_end(self._held())
+
+    def __enter__(self) -> World:
+        return self
+
+    def __exit__(self, *_: object) -> None:
+        self.close()
+
+    def __del__(self) -> None:
+        if threading.get_ident() == self._thread:
+            self.close()
+
+    def _held(self) -> Any:
+        """The world as the library wants it."""
+        if threading.get_ident() != self._thread:
+            raise RuntimeError("a world stays on the thread that began it")
+        return ctypes.byref(self._world)
+
+    def _tell(self, function: Any, text: bytes) -> str:
+        """Gives a text to the library, and keeps all that it tells: what there was no room for is asked for at once."""
+        said = function(self._held(), text, len(text), self._room, _WORLD_ROOM)
+        told = ctypes.string_at(self._room, min(said.length, _WORLD_ROOM))
+        if said.length > _WORLD_ROOM:
+            told += self._rest(said.length - _WORLD_ROOM)
+        self._told = _text_of(told)
+        if said.status:
+            self._fail(said, self._told)
+        return self._told
+
+    def _rest(self, length: int) -> bytes:
+        """So many bytes of what was told, behind those that there was room for."""
+        out = ctypes.create_string_buffer(length)
+        return ctypes.string_at(out, _library.hurd_told(self._held(), _WORLD_ROOM, out, length))
+
+    def _fail(self, said: _Said, told: str, who: bytes = b"") -> NoReturn:
+        """Raises what a status says. Where memory was refused it isn't known any more what was done."""
+        self._is_known = self._is_known and said.status != _Status.MEMORY
+        _fail(said, told, who)
+
+
+def _printed(function: Any, sort: int, text: Text, *who: Text) -> str:
+    """What a function of the library prints of a whole text. Where there was no room for all, it is asked again with more."""
+    if not 0 <= sort < 1 << 32:
+        raise NoSort
+    given = [_bytes_of(one) for one in (text, *who)]
+    words = [word for one in given for word in (one, len(one))]
+    room, length = 0, _TEXT_ROOM
+    while length > room:
+        room = length
+        out = ctypes.create_string_buffer(room)
+        said = function(sort, *words, out, room)
+        length = said.length
+    told = _text_of(ctypes.string_at(out, length))
+    if said.status:
+        _fail(said, told, given[-1])
+    return told
+
+
+def run(text: Text, sort: int = Sort.SCRIPT) -> str:
+    """What a text tells, run in a world of its own, as `hurd run` prints it.
+
+    Raises BadText, Refused, NoMemory, NoSort; TypeError of what is no text.
+    """
+    return _printed(_library.hurd_run, sort, text)
+
+
+def learn(text: Text, who: Text, sort: int = Sort.SCRIPT) -> str:
+    """What a text tells, and behind each command of others what those of `who` learn by it, as `hurd learns` prints it.
+
+    `who` is users of a script, or numbers of a list's tasks, with commas between them.
+    Raises BadText, Unknown, Refused, NoMemory, NoSort; TypeError of what is no text.
+    """
+    return _printed(_library.hurd_learn, sort, text, who)
+
+
+def see(text: Text, who: Text, sort: int = Sort.SCRIPT) -> str:
+    """All that those of `who` see at the end of a text, as `hurd see` prints it. Raises what `learn` raises."""
+    return _printed(_library.hurd_see, sort, text, who)
+
+
+def draw(text: Text, who: Text = "", sort: int = Sort.SCRIPT) -> str:
+    """A picture of the end of a text in the language of Graphviz, as `hurd draw` prints it. What those of `who` see is marked. Raises what `learn` raises."""
+    return _printed(_library.hurd_draw, sort, text, who)
