@@ -22,7 +22,7 @@ FindsTargets w t _ = ⊥
 -- nothing is changed, and a box comes back
 pub record Lacks (w : World) (t : ℕ) (c : Call) (reply : Reply) (x : World) : Type 0 where
   pub told : reply ≡ refusal (box_in c) ENOMEM
-  pub takes : takes_memory c ≡ true
+  pub takes : takes_memory w t c ≡ true
   pub needs : NeedsNone w t c → ⊥
   pub wanted : (is_refused (reply_of w t c) ≡ false) ⊎ FindsTargets w t c
   pub same : x ≡ w

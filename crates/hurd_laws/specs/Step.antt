@@ -1,4 +1,4 @@
--- One step of the machine: a call of a task. Each call has a line in each of the definitions by cases.
+-- One step of the machine: a call of a task. Each call has a row.
 use Rattle.std.specs.Prelude.{ℕ, Bool, true, false, is_some}
 use Rattle.hurd_trans_iface.specs.Nodes.{has_words}
 use Rattle.hurd_machine.specs.Calls.{Call, Reply, box_in}
@@ -23,117 +23,85 @@ use Rattle.hurd_dirs.specs.Remove.{plan_rmdir, touches_rmdir, plan_unlink, touch
 use Rattle.hurd_dirs.specs.Link.{plan_link, touches_link}
 use Rattle.hurd_dirs.specs.Rename.{plan_rename, touches_rename}
 
--- what a call of task t answers and changes by its row; ESRCH where there is no such task
+-- what a call is in a world: what it answers and changes, the parts that it touches beside the caller's own task, whether it takes memory, and so may find
+-- none, and where it needs none
+pub record Row : Type 1 where
+  pub plan : Plan
+  pub touches : Part → Type 0
+  pub takes : Bool
+  pub free : Type 0
+
+-- it takes memory where this is so, and always needs some then
+abbrev pub taking_if : Bool → Plan → (Part → Type 0) → Row
+taking_if takes plan touches = record { plan = plan; touches = touches; takes = takes; free = ⊥ }
+
+abbrev pub taking : Plan → (Part → Type 0) → Row
+taking = taking_if true
+
+-- it takes none
+abbrev pub calm : Plan → (Part → Type 0) → Row
+calm = taking_if false
+
+-- it takes some, but where this is so it needs none: a read that gives nothing; a write of no data, over bytes that are there, or to a stream; a cut, and any
+-- size of a stream
+abbrev pub sparing : Type 0 → Plan → (Part → Type 0) → Row
+sparing free plan touches = record { plan = plan; touches = touches; takes = true; free = free }
+
+-- the row of a call of task t; it answers ESRCH where there is no such task, and a refused call touches nothing
+abbrev pub row_of : World → ℕ → Call → Row
+row_of w t (PortDeallocate p) = calm (plan_deallocate w t p) (touches_deallocate w t p)
+row_of w t (PortSend p q) = taking (plan_send w t p q.0) (touches_send w t p q.0)
+row_of w t PortReceive = taking (plan_receive w t) (touches_receive w t)
+row_of w t (AuthMakeauth ids) = calm (plan_makeauth w t ids) (touches_makeauth w t ids)
+row_of w t (DirLookup p path flags mode) = taking (plan_lookup w t p path flags mode) (touches_lookup w t p path flags mode)
+row_of w t (IoRead p amount offset) = sparing (free_read w t p amount offset) (plan_read w t p amount offset) (touches_read w t p amount offset)
+row_of w t (IoWrite p bytes offset) = sparing (free_write w t p bytes offset) (plan_write w t p bytes offset) (touches_write w t p bytes offset)
+row_of w t (IoSeek p offset whence) = calm (plan_seek w t p offset whence) (touches_seek w t p offset whence)
+row_of w t (IoStat p) = calm (plan_stat w t p) (touches_stat w t p)
+row_of w t (IoReadable p) = calm (plan_readable w t p) (touches_readable w t p)
+row_of w t (IoGetOpenmodes p) = calm (plan_get_openmodes w t p) (touches_get_openmodes w t p)
+row_of w t (IoSetAllOpenmodes p flags) = calm (plan_set_openmodes w t p flags) (touches_set_openmodes w t p flags)
+row_of w t (IoDuplicate p) = taking (plan_duplicate w t p) (touches_share w t p)
+row_of w t (IoReauthenticate p) = taking (plan_reauthenticate w t p) (touches_share w t p)
+row_of w t (IoRestrictAuth p ids) = taking (plan_restrict_auth w t p ids) (touches_share w t p)
+row_of w t (IoIdentity p q) = calm (plan_identity w t p q) (touches_identity w t p q)
+row_of w t (FileSetSize p size) = sparing (free_set_size w t p size) (plan_set_size w t p size) (touches_set_size w t p size)
+row_of w t (FileChmod p mode) = calm (plan_chmod w t p mode) (touches_chmod w t p mode)
+row_of w t (FileChown p owner group) = calm (plan_chown w t p owner group) (touches_chown w t p owner group)
+row_of w t (FileCheckAccess p) = calm (plan_check_access w t p) (touches_check_access w t p)
+row_of w t (FileSetTranslator p setting words server) = taking_if (is_some server) (plan_set_translator w t p setting words server) (touches_set_translator w t p setting server)
+row_of w t (FileGetTranslator p) = taking (plan_get_translator w t p) (touches_get_translator w t p)
+row_of w t (FileGetTranslatorCntl p) = taking (plan_cntl w t p) (touches_cntl w t p)
+row_of w t (FileGetcontrol p) = taking (plan_getcontrol w t p) (touches_getcontrol w t p)
+row_of w t (FsysStartup server) = taking (plan_startup w t server) (touches_startup w t server)
+row_of w t StartFailed = calm (plan_start_failed w t) (touches_start_failed w t)
+row_of w t (FsysGetroot c dir flags) = taking (plan_getroot w t c dir flags) (touches_getroot w t c dir flags)
+row_of w t (FsysGoaway c flags) = calm (plan_goaway w t c flags) (touches_goaway w t c flags)
+row_of w t (FsysGetOptions c) = taking (plan_get_options w t c) (touches_get_options w t c)
+row_of w t (FsysSetOptions c words) = taking_if (has_words words) (plan_set_options w t c words) (touches_set_options w t c words)
+row_of w t (DirReaddir p) = taking (plan_readdir w t p) (touches_readdir w t p)
+row_of w t (DirMkdir p name mode) = taking (plan_mkdir w t p name mode) (touches_mkdir w t p name mode)
+row_of w t (DirMkfile p flags mode) = taking (plan_mkfile w t p flags mode) (touches_mkfile w t p flags mode)
+row_of w t (DirRmdir p name) = calm (plan_rmdir w t p name) (touches_rmdir w t p name)
+row_of w t (DirUnlink p name) = calm (plan_unlink w t p name) (touches_unlink w t p name)
+row_of w t (DirLink p name q) = taking (plan_link w t p name q) (touches_link w t p name q)
+row_of w t (DirRename p name q new) = taking (plan_rename w t p name q new) (touches_rename w t p name q new)
+
 abbrev pub row : World → ℕ → Call → Plan
-row w t (PortDeallocate p) = plan_deallocate w t p
-row w t (PortSend p q) = plan_send w t p q.0
-row w t PortReceive = plan_receive w t
-row w t (AuthMakeauth ids) = plan_makeauth w t ids
-row w t (DirLookup p path flags mode) = plan_lookup w t p path flags mode
-row w t (IoRead p amount offset) = plan_read w t p amount offset
-row w t (IoWrite p bytes offset) = plan_write w t p bytes offset
-row w t (IoSeek p offset whence) = plan_seek w t p offset whence
-row w t (IoStat p) = plan_stat w t p
-row w t (IoReadable p) = plan_readable w t p
-row w t (IoGetOpenmodes p) = plan_get_openmodes w t p
-row w t (IoSetAllOpenmodes p flags) = plan_set_openmodes w t p flags
-row w t (IoDuplicate p) = plan_duplicate w t p
-row w t (IoReauthenticate p) = plan_reauthenticate w t p
-row w t (IoRestrictAuth p ids) = plan_restrict_auth w t p ids
-row w t (IoIdentity p q) = plan_identity w t p q
-row w t (FileSetSize p size) = plan_set_size w t p size
-row w t (FileChmod p mode) = plan_chmod w t p mode
-row w t (FileChown p owner group) = plan_chown w t p owner group
-row w t (FileCheckAccess p) = plan_check_access w t p
-row w t (FileSetTranslator p setting words server) = plan_set_translator w t p setting words server
-row w t (FileGetTranslator p) = plan_get_translator w t p
-row w t (FileGetTranslatorCntl p) = plan_cntl w t p
-row w t (FileGetcontrol p) = plan_getcontrol w t p
-row w t (FsysStartup server) = plan_startup w t server
-row w t StartFailed = plan_start_failed w t
-row w t (FsysGetroot c dir flags) = plan_getroot w t c dir flags
-row w t (FsysGoaway c flags) = plan_goaway w t c flags
-row w t (FsysGetOptions c) = plan_get_options w t c
-row w t (FsysSetOptions c words) = plan_set_options w t c words
-row w t (DirReaddir p) = plan_readdir w t p
-row w t (DirMkdir p name mode) = plan_mkdir w t p name mode
-row w t (DirMkfile p flags mode) = plan_mkfile w t p flags mode
-row w t (DirRmdir p name) = plan_rmdir w t p name
-row w t (DirUnlink p name) = plan_unlink w t p name
-row w t (DirLink p name q) = plan_link w t p name q
-row w t (DirRename p name q new) = plan_rename w t p name q new
+row w t c = (row_of w t c).plan
+
+abbrev pub touches : World → ℕ → Call → Part → Type 0
+touches w t c = (row_of w t c).touches
+
+abbrev pub takes_memory : World → ℕ → Call → Bool
+takes_memory w t c = (row_of w t c).takes
+
+abbrev pub NeedsNone : World → ℕ → Call → Type 0
+NeedsNone w t c = (row_of w t c).free
 
 -- with the box back that a refused call brought
 abbrev pub plan : World → ℕ → Call → Plan
 plan w t c = returning (box_in c) (row w t c)
-
--- the parts of the world that it touches, beside the caller's own task; a refused call touches none
-abbrev pub touches : World → ℕ → Call → Part → Type 0
-touches w t (PortDeallocate p) = touches_deallocate w t p
-touches w t (PortSend p q) = touches_send w t p q.0
-touches w t PortReceive = touches_receive w t
-touches w t (AuthMakeauth ids) = touches_makeauth w t ids
-touches w t (DirLookup p path flags mode) = touches_lookup w t p path flags mode
-touches w t (IoRead p amount offset) = touches_read w t p amount offset
-touches w t (IoWrite p bytes offset) = touches_write w t p bytes offset
-touches w t (IoSeek p offset whence) = touches_seek w t p offset whence
-touches w t (IoStat p) = touches_stat w t p
-touches w t (IoReadable p) = touches_readable w t p
-touches w t (IoGetOpenmodes p) = touches_get_openmodes w t p
-touches w t (IoSetAllOpenmodes p flags) = touches_set_openmodes w t p flags
-touches w t (IoDuplicate p) = touches_share w t p
-touches w t (IoReauthenticate p) = touches_share w t p
-touches w t (IoRestrictAuth p ids) = touches_share w t p
-touches w t (IoIdentity p q) = touches_identity w t p q
-touches w t (FileSetSize p size) = touches_set_size w t p size
-touches w t (FileChmod p mode) = touches_chmod w t p mode
-touches w t (FileChown p owner group) = touches_chown w t p owner group
-touches w t (FileCheckAccess p) = touches_check_access w t p
-touches w t (FileSetTranslator p setting words server) = touches_set_translator w t p setting server
-touches w t (FileGetTranslator p) = touches_get_translator w t p
-touches w t (FileGetTranslatorCntl p) = touches_cntl w t p
-touches w t (FileGetcontrol p) = touches_getcontrol w t p
-touches w t (FsysStartup server) = touches_startup w t server
-touches w t StartFailed = touches_start_failed w t
-touches w t (FsysGetroot c dir flags) = touches_getroot w t c dir flags
-touches w t (FsysGoaway c flags) = touches_goaway w t c flags
-touches w t (FsysGetOptions c) = touches_get_options w t c
-touches w t (FsysSetOptions c words) = touches_set_options w t c words
-touches w t (DirReaddir p) = touches_readdir w t p
-touches w t (DirMkdir p name mode) = touches_mkdir w t p name mode
-touches w t (DirMkfile p flags mode) = touches_mkfile w t p flags mode
-touches w t (DirRmdir p name) = touches_rmdir w t p name
-touches w t (DirUnlink p name) = touches_unlink w t p name
-touches w t (DirLink p name q) = touches_link w t p name q
-touches w t (DirRename p name q new) = touches_rename w t p name q new
-
--- whether it takes memory, and so may find none
-abbrev pub takes_memory : Call → Bool
-takes_memory (PortDeallocate p) = false
-takes_memory (AuthMakeauth ids) = false
-takes_memory (IoSeek p offset whence) = false
-takes_memory (IoStat p) = false
-takes_memory (IoReadable p) = false
-takes_memory (IoGetOpenmodes p) = false
-takes_memory (IoSetAllOpenmodes p flags) = false
-takes_memory (IoIdentity p q) = false
-takes_memory (FileChmod p mode) = false
-takes_memory (FileChown p owner group) = false
-takes_memory (FileCheckAccess p) = false
-takes_memory (FileSetTranslator p setting words server) = is_some server
-takes_memory StartFailed = false
-takes_memory (FsysGoaway c flags) = false
-takes_memory (FsysSetOptions c words) = has_words words
-takes_memory (DirRmdir p name) = false
-takes_memory (DirUnlink p name) = false
-takes_memory _ = true
-
--- where a call that takes memory needs none, as the world stands: a read that gives nothing; a write of no data, over bytes that are there, or to a stream; a cut, and any size of a stream
-abbrev pub NeedsNone : World → ℕ → Call → Type 0
-NeedsNone w t (IoRead p amount offset) = free_read w t p amount offset
-NeedsNone w t (IoWrite p bytes offset) = free_write w t p bytes offset
-NeedsNone w t (FileSetSize p size) = free_set_size w t p size
-NeedsNone w t _ = ⊥
 
 abbrev pub reply_of : World → ℕ → Call → Reply
 reply_of w t c = (plan w t c).reply
