@@ -13,18 +13,6 @@ use Rattle.hurd_trans_iface.specs.Answers.{header_edits}
 use Rattle.hurd_nodes.specs.Shown.{can_set_attrs}
 use Rattle.hurd_core.proofs.SettleLaws.{settled_if}
 
--- the header of a node edited
-module _ (N : NodeState) (H : PortState) where
-  pub header-follow : (n : Name) (h : HeaderEdit) (r : Result (Unit {0}) Errno) (M : NodeState) → ◌≡◌ {A = Result (Unit {0}) Errno × NodeState} (r, M) (edit_header_at n h N)
-      → Follows (world_from N H) (answered (can_set_attrs n N) (λ u. record { reply = Done; changes = EditHeader n (header_after h) ∷ [] })) (told (λ u. Done) r) (world_from M H)
-  unfolding answered
-  header-follow n h r M e = by (can_set_attrs n N) e
-    where
-      by : (a : Result (Unit {0}) Errno) → ◌≡◌ {A = Result (Unit {0}) Errno × NodeState} (r, M) (a, with_edits (edits_if a (header_edits n h)) N)
-          → Follows (world_from N H) (answered a (λ u. record { reply = Done; changes = EditHeader n (header_after h) ∷ [] })) (told (λ u. Done) r) (world_from M H)
-      by (Err g) h = (ap (λ (z : Result (Unit {0}) Errno × NodeState). told (λ u. Done) z.0) h, ap (λ (z : Result (Unit {0}) Errno × NodeState). world_from z.1 H) h)
-      by (Ok u) h = (ap (λ (z : Result (Unit {0}) Errno × NodeState). told (λ u. Done) z.0) h, ap (λ (z : Result (Unit {0}) Errno × NodeState). world_from z.1 H) h)
-
 module _ (N : NodeState) (H : PortState) (t : ℕ) where
   abbrev w : World
   w = world_from N H
