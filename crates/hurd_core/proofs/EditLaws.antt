@@ -1,7 +1,7 @@
 -- What servers do to nodes where their entries come, go and move, by the core, is what the machine's changes make of the world.
 use Rattle.std.proofs.Common.{◌≡◌, Bool, true, false, List, [], ◌∷◌, Option, Some, None, ℕ, refl}
 use Rattle.std.specs.Prelude.{Result, Ok, Err, if◌then◌else◌}
-use Rattle.hurd_machine.proofs.Common.{AddNode, Change, Edit, EditBody, EditHeader, Errno, HeaderEdit, Name, NameMap, NodeState, OnBody, OnHeader, PortState, Settle, Site, Steps, World, answered, apply_all, are_kin, body_of, changes_of, edit_header_at, edits_if, entry_of, header_after, home_in, is_one, links_at, move_edits, own_edits, rename_edits, renames_at, told, unlink_edits, with_edits, with_entry, world_from}
+use Rattle.hurd_machine.proofs.Common.{AddNode, Change, Edit, EditBody, EditHeader, Errno, HeaderEdit, Name, NameMap, NodeState, OnBody, OnHeader, PortState, Site, Steps, World, answered, apply_all, are_kin, body_of, changes_of, edit_header_at, edits_if, entry_of, header_after, home_in, is_one, links_at, move_edits, own_edits, rename_edits, renames_at, told, unlink_edits, with_edits, with_entry, world_from}
 use Rattle.hurd_trans_iface.specs.Answers.{header_edits, link_edits}
 use Rattle.hurd_trans_iface.specs.Nodes.{linked}
 use Rattle.hurd_nodes.specs.Shown.{can_link, can_rename, can_set_attrs, can_unlink, link_at, rename_at, rename_edits_at, unlink_at, unlink_edits_at}

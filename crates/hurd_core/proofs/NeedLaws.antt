@@ -1,12 +1,9 @@
 -- What a server is asked, the core does in the world; and where a server needs no memory, its row answers as its plan says.
-use Rattle.std.proofs.Common.{◌≡◌, ◌∙◌, inl, inr, ℕ, Bool, true, false, cond, List, [], ◌∷◌, Option, Some, None, sym, refl, ap, subst, true≢false}
+use Rattle.std.proofs.Common.{◌≡◌, ◌∙◌, ℕ, List, Option, Some, None, sym, refl, ap, subst}
 use Rattle.std.specs.Prelude.{Result, Ok, Err}
-use Rattle.hurd_machine.proofs.Common.{Change, Did, EditBody, EditHeader, Errno, Name, NodeState, Plan, PortState, Question, Reply, Steps, World, answered, apply_all, asked_at, changes_of, edit_bytes, edit_size, edits_if, edits_of, is_no_memory, told, with_edits, with_entry, world_from}
-use Rattle.hurd_machine.specs.World.{links_at}
-use Rattle.hurd_trans_iface.specs.Answers.{link_edits}
-use Rattle.hurd_trans_iface.specs.Nodes.{linked}
+use Rattle.hurd_machine.proofs.Common.{Change, Did, Errno, Name, NodeState, Plan, PortState, Question, Reply, Steps, World, answered, apply_all, asked_at, changes_of, edit_bytes, edit_size, edits_of, told, with_edits, world_from}
 use Rattle.hurd_trans_iface.specs.Behaviour.{Effect, told_of}
-use Rattle.hurd_nodes.specs.Shown.{asked_step, can_link, effect_at, link_at}
+use Rattle.hurd_nodes.specs.Shown.{asked_step, effect_at}
 use Rattle.hurd_machine.specs.declared.call.Reply.TheVariants.{Refused}
 use Rattle.hurd_machine.specs.Plan.{Follows}
 use Rattle.hurd_core.specs.Core.{Does}

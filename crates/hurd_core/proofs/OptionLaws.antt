@@ -1,7 +1,7 @@
 -- What options make of a server is what the machine's changes make of the world.
-use Rattle.std.proofs.Common.{◌≡◌, ◌∙◌, ℕ, Bool, true, false, cond, List, [], ◌∷◌, Option, Some, None, refl, sym, ap, subst, true≢false, inl, inr}
+use Rattle.std.proofs.Common.{◌≡◌, ℕ, Bool, true, false, List, [], ◌∷◌, Option, Some, None, refl}
 use Rattle.std.specs.Prelude.{Result, Ok, Err}
-use Rattle.hurd_machine.proofs.Common.{Change, Errno, Name, NodeState, OnHeader, Plan, Planned, PortState, Reply, ServerInfo, Steps, World, apply_all, changes_of, edit, get, is_no_memory, keeps_tree, own_nodes, retexting, size_of, sizing, sizing_unless, takes_options, told, with_edits, with_size, with_text, world_from}
+use Rattle.hurd_machine.proofs.Common.{Change, Errno, Name, NodeState, OnHeader, Planned, PortState, ServerInfo, Steps, World, apply_all, changes_of, edit, get, keeps_tree, own_nodes, retexting, size_of, sizing, sizing_unless, takes_options, told, with_edits, with_size, with_text, world_from}
 use Rattle.hurd_nodes.specs.Shown.{retexted, retexted_if, set_options_at}
 use Rattle.hurd_machine.specs.declared.call.Reply.TheVariants.{Done}
 use Rattle.hurd_machine.specs.Plan.{Follows}

@@ -1,11 +1,10 @@
 -- Rights that are shared, sent and received, and other ids for a task: what the ports do is what the world's changes do.
-use Rattle.std.proofs.Common.{◌≡◌, ◌∙◌, inl, inr, ℕ, Bool, true, false, cond, List, [], ◌∷◌, Option, Some, None, length, slice_get, refl, sym, ap, subst, true≢false}
-use Rattle.std.specs.Prelude.{Result, Ok, Err, is_ok, nat_lt, if◌then◌else◌}
-use Rattle.hurd_machine.proofs.Common.{Change, EOVERFLOW, ESRCH, EWOULDBLOCK, EditTask, Errno, IdSets, Name, NodeState, OpenFlags, PendingStart, Plan, PortState, Right, Send, Steps, Task, World, answered, apply_all, edit_task, first, first_sent, given, has_room, insert_at, insert_step, is_no_memory, on, opening, or_refuse, pend_at, pend_step, pending, receive_at, receive_step, received, send_step, sent_to, share_at, share_step, take_ids_at, take_ids_step, taken_by, task_of, told, with_ids, with_new_port, with_pending, with_port, with_sent, world_from}
+use Rattle.std.proofs.Common.{◌≡◌, ◌∙◌, ℕ, Bool, true, false, List, [], ◌∷◌, Option, Some, None, length, slice_get, refl, ap}
+use Rattle.std.specs.Prelude.{Result, Ok, Err, nat_lt, if◌then◌else◌}
+use Rattle.hurd_machine.proofs.Common.{Change, EOVERFLOW, ESRCH, EWOULDBLOCK, EditTask, Errno, IdSets, Name, NodeState, OpenFlags, PendingStart, PortState, Right, Send, Steps, Task, World, answered, edit_task, first, first_sent, given, has_room, insert_at, insert_step, on, opening, or_refuse, pend_at, pend_step, pending, receive_at, receive_step, received, send_step, sent_to, share_at, share_step, take_ids_at, take_ids_step, taken_by, task_of, told, with_ids, with_new_port, with_pending, with_port, with_sent, world_from}
 use Rattle.hurd_ports.specs.declared.parents.Parent.{Parent}
 use Rattle.hurd_ports.specs.Tables.{right_of}
 use Rattle.hurd_machine.specs.declared.call.Reply.TheVariants.{Done}
-use Rattle.hurd_machine.specs.Change.{settle}
 use Rattle.hurd_machine.specs.Plan.{Follows}
 use Rattle.hurd_core.proofs.SettleLaws.{Alike, alike-does, alike-follows, does_settled, settled-follows, settled_if, stepped-does}
 use Rattle.hurd_core.specs.Core.{Does, receive_asks, room_asks, send_asks}

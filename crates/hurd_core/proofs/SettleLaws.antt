@@ -1,7 +1,7 @@
 -- A step of one half of the world, as the nodes or the ports, is what the machine's changes make of the world; where it settles, with one change more.
 use Rattle.std.proofs.Common.{◌≡◌, ◌∙◌, inl, inr, Bool, true, false, cond, List, [], ◌∷◌, ◌++◌, refl, sym, ap, true≢false}
 use Rattle.std.specs.Prelude.{Result, Ok, Err}
-use Rattle.hurd_machine.proofs.Common.{Change, Errno, Plan, Reply, Settle, Steps, World, answered, apply_all, is_no_memory, told}
+use Rattle.hurd_machine.proofs.Common.{Change, Errno, Reply, Settle, Steps, World, answered, apply_all, is_no_memory, told}
 use Rattle.hurd_machine.specs.Change.{settle}
 use Rattle.hurd_machine.specs.Plan.{Follows}
 use Rattle.hurd_machine.proofs.Keeping.{apply_all-append}

@@ -1,8 +1,8 @@
 -- The laws of taking entries out of directories.
-use Rattle.std.proofs.Common.{◌≡◌, ◌∙◌, ℕ, Bool, true, false, not, true≢false, List, [], ◌∷◌, ◌++◌, Option, Some, None, refl, sym, ap, ap₂, subst, inl, inr}
+use Rattle.std.proofs.Common.{◌≡◌, ◌∙◌, ℕ, Bool, true, false, not, true≢false, List, [], ◌∷◌, Option, Some, None, refl, sym, ap, ap₂, subst, inl, inr}
 use Rattle.std.specs.Prelude.{Result, Ok, is_some}
 use Rattle.std.specs.Option.{option_map}
-use Rattle.hurd_machine.proofs.Common.{Body, BodyOf, Change, Coherent, Content, Dir, EACCES, EBUSY, EDIED, EISDIR, ENOENT, ENOTDIR, ENOTEMPTY, EditBody, EditHeader, EmptyOf, Errno, Header, Listing, Name, Named, Node, Reply, Seen, Sees, ServerInfo, Settle, World, active_at, answered, are_kin, asked_parts, body_at, changes_of, entry_of, get, header_at, home_at, info_at, info_in, is_dir, is_empty_dir, lists_at, own_edits, tree_by, unlink_edits, unlinked, without_entry}
+use Rattle.hurd_machine.proofs.Common.{Body, BodyOf, Coherent, Content, Dir, EACCES, EBUSY, EDIED, EISDIR, ENOENT, ENOTDIR, ENOTEMPTY, EditBody, EditHeader, EmptyOf, Errno, Header, Listing, Name, Named, Node, Reply, Seen, Sees, ServerInfo, Settle, World, active_at, answered, are_kin, asked_parts, body_at, entry_of, get, header_at, home_at, info_at, info_in, is_dir, is_empty_dir, lists_at, tree_by, unlinked, without_entry}
 use Rattle.std.proofs.lemmas.Bool.{not-true}
 use Rattle.hurd_creds.proofs.NameLaws.{same_name-itself}
 use Rattle.hurd_trans_iface.proofs.Goods.{good}
