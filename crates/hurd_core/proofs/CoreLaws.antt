@@ -1,29 +1,15 @@
 -- What becomes of one half of the world is what the machine's changes make of all of it.
-use Rattle.std.proofs.Common.{◌≡◌, ◌∙◌, ℕ, Bool, true, false, List, [], ◌∷◌, Option, Some, None, refl, sym, ap, slice_get, true≢false}
-use Rattle.std.specs.Prelude.{Result, Ok, Err, is_ok, if◌then◌else◌}
-use Rattle.hurd_machine.proofs.Common.{EBADF, EOVERFLOW, ESRCH, EditHeader, EditTask, Errno, HeaderEdit, IdSets, Io, Control, Start, open_of, Name, NodeState, OpenFlags, Plan, PortState, Right, Settle, Task, World, answered, apply, apply_all, can_name, deallocate_at, deallocate_step, dropping, edit_header_at, edit_task, edits_if, given, has_room, is_held, header_after, insert_at, insert_step, naming_of, on, or_refuse, outside_by, right_at, right_in, room_at, room_of, told, with_edits, with_new_port, without_port, world_from}
+use Rattle.std.proofs.Common.{◌≡◌, ◌∙◌, ℕ, Bool, true, false, List, ◌∷◌, Option, Some, None, refl, ap, slice_get}
+use Rattle.std.specs.Prelude.{Result, Ok, Err, if◌then◌else◌}
+use Rattle.hurd_machine.proofs.Common.{Change, EBADF, EOVERFLOW, ESRCH, EditTask, Errno, IdSets, Io, Control, Start, open_of, Name, NodeState, OpenFlags, PortState, Right, Task, World, answered, can_name, deallocate_at, deallocate_step, dropping, given, has_room, insert_at, insert_step, naming_of, on, or_refuse, right_at, right_in, room_at, room_of, told, with_new_port, without_port, world_from}
 use Rattle.hurd_ports.specs.declared.parents.Parent.{Parent}
 use Rattle.hurd_ports.specs.Tables.{naming_at, right_of}
-use Rattle.hurd_ports.specs.Steps.{dropped, settled_by}
+use Rattle.hurd_ports.specs.Steps.{dropped}
 use Rattle.hurd_machine.specs.declared.call.Reply.TheVariants.{Done}
-use Rattle.hurd_machine.specs.Change.{settle}
+use Rattle.hurd_machine.specs.Change.{letting_go}
 use Rattle.hurd_machine.specs.Plan.{Follows}
 use Rattle.hurd_core.specs.Core.{naming_asks, room_asks}
-use Rattle.hurd_trans_iface.specs.Answers.{header_edits}
-use Rattle.hurd_nodes.specs.Shown.{can_set_attrs}
-use Rattle.hurd_core.proofs.SettleLaws.{settled_if}
-
--- the header of a node edited
-module _ (N : NodeState) (H : PortState) where
-  pub header-follow : (n : Name) (h : HeaderEdit) (r : Result (Unit {0}) Errno) (M : NodeState) → ◌≡◌ {A = Result (Unit {0}) Errno × NodeState} (r, M) (edit_header_at n h N)
-      → Follows (world_from N H) (answered (can_set_attrs n N) (λ u. record { reply = Done; changes = EditHeader n (header_after h) ∷ [] })) (told (λ u. Done) r) (world_from M H)
-  unfolding answered
-  header-follow n h r M e = by (can_set_attrs n N) e
-    where
-      by : (a : Result (Unit {0}) Errno) → ◌≡◌ {A = Result (Unit {0}) Errno × NodeState} (r, M) (a, with_edits (edits_if a (header_edits n h)) N)
-          → Follows (world_from N H) (answered a (λ u. record { reply = Done; changes = EditHeader n (header_after h) ∷ [] })) (told (λ u. Done) r) (world_from M H)
-      by (Err g) h = (ap (λ (z : Result (Unit {0}) Errno × NodeState). told (λ u. Done) z.0) h, ap (λ (z : Result (Unit {0}) Errno × NodeState). world_from z.1 H) h)
-      by (Ok u) h = (ap (λ (z : Result (Unit {0}) Errno × NodeState). told (λ u. Done) z.0) h, ap (λ (z : Result (Unit {0}) Errno × NodeState). world_from z.1 H) h)
+use Rattle.hurd_core.proofs.SettleLaws.{Alike, settled-follows, settled_if}
 
 module _ (N : NodeState) (H : PortState) (t : ℕ) where
   abbrev w : World
@@ -31,42 +17,26 @@ module _ (N : NodeState) (H : PortState) (t : ℕ) where
 
   -- a port given up
 
-  module _ (p : ℕ) (K : PortState) (z : World) where
-    abbrev drops : Result Right Errno → Plan
-    drops o = answered o (λ q. record { reply = Done; changes = dropping t p q })
+  module _ (p : ℕ) where
+    abbrev whole : PortState → World
+    whole K = world_from N K
 
-    abbrev Drops : Result (Unit {0}) Errno → Result Right Errno → Result (Unit {0}) Errno × PortState → Type 0
-    Drops r o step = (r, K) ≡ step → z ≡ settled_if r (world_from N K) → Follows w (drops o) (told (λ u. Done) r) z
+    abbrev drops : Right → List Change
+    drops q = EditTask t (without_port p) ∷ letting_go (open_of q)
 
-    refused : (e : Errno) (r : Result (Unit {0}) Errno) → Drops r (Err e) (Err e, H)
-    unfolding answered
-    refused e (Err f) h left = (ap (λ (s : Result (Unit {0}) Errno × PortState). told (λ u. Done) s.0) h, left ∙ ap (λ (s : Result (Unit {0}) Errno × PortState). world_from N s.1) h)
-    refused e (Ok u) h left = absurd (true≢false (ap (λ (s : Result (Unit {0}) Errno × PortState). is_ok s.0) h))
+    drop_by : (o : Option Right) → Alike whole H drops (λ q. tt {0}) (or_refuse EBADF o) (dropped H t p o)
+    drop_by None = (refl, refl)
+    drop_by (Some (Io r)) = (refl, refl)
+    drop_by (Some (Control s)) = (refl, refl)
+    drop_by (Some (Start n)) = (refl, refl)
 
-    -- the ports without the port, and without its open if that was the last
-    abbrev left_with : Right → PortState
-    left_with q = let ts = edit_task t (without_port p) H.tasks in record { opens = settled_by (is_held ts) (open_of q) H.opens; tasks = ts }
+    drop_at : (o : Option Task) → Alike whole H drops (λ q. tt {0}) (right_at p o) (deallocate_at H t p o)
+    drop_at None = (refl, refl)
+    drop_at (Some x) = drop_by (right_in p x.ports)
 
-    leaves : (q : Right) → settle (world_from N (left_with q)) ≡ apply_all (dropping t p q) w
-    leaves (Io r) = refl
-    leaves (Control s) = refl
-    leaves (Start n) = refl
-
-    gone : (q : Right) (r : Result (Unit {0}) Errno) → Drops r (Ok q) (Ok tt, left_with q)
-    unfolding answered
-    gone q (Err f) h left = absurd (true≢false (sym (ap (λ (s : Result (Unit {0}) Errno × PortState). is_ok s.0) h)))
-    gone q (Ok u) h left = (refl, left ∙ ap (λ (s : Result (Unit {0}) Errno × PortState). settle (world_from N s.1)) h ∙ leaves q)
-
-    drop_by : (o : Option Right) (r : Result (Unit {0}) Errno) → Drops r (or_refuse EBADF o) (dropped H t p o)
-    drop_by None r = refused EBADF r
-    drop_by (Some q) r = gone q r
-
-    drop_at : (o : Option Task) (r : Result (Unit {0}) Errno) → Drops r (right_at p o) (deallocate_at H t p o)
-    drop_at None r = refused ESRCH r
-    drop_at (Some x) r = drop_by (right_in p x.ports) r
-
-    pub drop-follows : (r : Result (Unit {0}) Errno) → Drops r (right_of H t p) (deallocate_step t p H)
-    drop-follows r = drop_at (slice_get H.tasks t) r
+    pub drop-follows : (r : Result (Unit {0}) Errno) (K : PortState) (z : World) → (r, K) ≡ deallocate_step t p H → z ≡ settled_if r (world_from N K)
+        → Follows w (answered (right_of H t p) (λ q. record { reply = Done; changes = dropping t p q })) (told (λ u. Done) r) z
+    drop-follows r K z is left = settled-follows whole H drops (λ q. tt {0}) (λ u. Done) _ _ (drop_at (slice_get H.tasks t)) r K is z left
 
   -- the room of a task, asked of its tables and of the world: it has room, or both refuse alike
 

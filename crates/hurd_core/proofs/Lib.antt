@@ -6,8 +6,7 @@ pub mod MakingLaws
 pub mod DirLaws
 pub mod DirPieces
 pub mod PlanLaws
-pub mod UnlinkLaws
-pub mod RenameLaws
+pub mod EditLaws
 pub mod OptionLaws
 pub mod ServerLaws
 pub mod NamedLaws

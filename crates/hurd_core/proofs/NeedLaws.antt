@@ -1,20 +1,14 @@
 -- What a server is asked, the core does in the world; and where a server needs no memory, its row answers as its plan says.
-use Rattle.std.proofs.Common.{◌≡◌, ◌∙◌, inl, inr, ℕ, Bool, true, false, cond, List, [], ◌∷◌, Option, Some, None, sym, refl, ap, subst, true≢false}
+use Rattle.std.proofs.Common.{◌≡◌, ◌∙◌, ℕ, List, Option, Some, None, sym, refl, ap, subst}
 use Rattle.std.specs.Prelude.{Result, Ok, Err}
-use Rattle.hurd_machine.proofs.Common.{Change, Did, EditBody, EditHeader, Errno, Name, NodeState, Plan, PortState, Question, Reply, Steps, World, answered, apply_all, asked_at, changes_of, edit_bytes, edit_size, edits_if, edits_of, is_no_memory, told, with_edits, with_entry, world_from}
-use Rattle.hurd_machine.specs.World.{links_at}
-use Rattle.hurd_trans_iface.specs.Answers.{link_edits}
-use Rattle.hurd_trans_iface.specs.Nodes.{linked}
+use Rattle.hurd_machine.proofs.Common.{Change, Did, Errno, Name, NodeState, Plan, PortState, Question, Reply, Steps, World, answered, apply_all, asked_at, changes_of, edit_bytes, edit_size, edits_of, told, with_edits, world_from}
 use Rattle.hurd_trans_iface.specs.Behaviour.{Effect, told_of}
-use Rattle.hurd_nodes.specs.Shown.{asked_step, can_link, effect_at, link_at}
+use Rattle.hurd_nodes.specs.Shown.{asked_step, effect_at}
 use Rattle.hurd_machine.specs.declared.call.Reply.TheVariants.{Refused}
 use Rattle.hurd_machine.specs.Plan.{Follows}
 use Rattle.hurd_core.specs.Core.{Does}
+use Rattle.hurd_core.proofs.SettleLaws.{Alike, alike-does}
 use Rattle.hurd_core.proofs.PlanLaws.{asked-done, follows-refused}
-
-either : {A : Type 0} (b : Bool) (x y : A) → y ≡ cond b x x → y ≡ x
-either true x y same = same
-either false x y same = same
 
 -- what a server answers of a node, and does to it, is so in the world
 module _ (N : NodeState) (H : PortState) (n : Name) where
@@ -31,43 +25,12 @@ module _ (N : NodeState) (H : PortState) (n : Name) where
   edited (Some f) None = refl
   edited (Some f) (Some k) = refl
 
-  asked : {T : Type 0} (x : Effect T) (r : Result T Errno) (M : NodeState) → Steps N (told_of x, with_edits (edits_of n x) N) r M → Does w x did (λ (d : Did T). d.told) r (world_from M H)
-  asked (Ok d) (Ok v) M s = let told : Ok d.told ≡ Ok v = s.answered in (d, refl, cc, ap (λ (h : NodeState). world_from h H) s.left ∙ edited d.bytes d.size)
-  asked (Ok d) (Err e) M s = elim s.answered [
-    | inl refused ↦ absurd (cc)
-    | inr lacks ↦ (ap (λ (h : NodeState). world_from h H) (s.left ∙ rw lacks.0 refl), inr (lacks.0, refl))
-  ]
-  asked (Err f) (Ok v) M s = absurd (cc (s.answered))
-  asked (Err f) (Err e) M s = elim s.answered [
-    | inl refused ↦ (ap (λ (h : NodeState). world_from h H) (either (is_no_memory e) N M s.left), inl (cc))
-    | inr lacks ↦ absurd (true≢false (sym lacks.1))
-  ]
+  asked_alike : {T : Type 0} (x : Effect T) → Alike (λ M. world_from M H) N did (λ (d : Did T). d.told) x (told_of x, with_edits (edits_of n x) N)
+  asked_alike (Ok d) = (refl, edited d.bytes d.size)
+  asked_alike (Err e) = (refl, refl)
 
   pub asked-does : {T : Type 0} (q : Question T) (r : Result T Errno) (M : NodeState) → Steps N (asked_step q n N) r M → Does w (asked_at q n w) did (λ (d : Did T). d.told) r (world_from M H)
-  asked-does q r M s = asked (effect_at q n N) r M s
-
--- another name, where it may be given
-module _ (N : NodeState) (H : PortState) (dir : Name) (name : List ℕ) (m : Name) where
-  abbrev before : World
-  before = world_from N H
-
-  abbrev naming : Unit {0} → List Change
-  naming u = EditBody dir (with_entry name m) ∷ EditHeader m linked ∷ []
-
-  linked-if : (can r : Result (Unit {0}) Errno) (M : NodeState) → Steps N (can, with_edits (edits_if can (link_edits dir name m)) N) r M → Does before can naming (λ u. tt) r (world_from M H)
-  linked-if (Ok u) (Ok v) M s = (u, refl, refl, ap (λ (h : NodeState). world_from h H) s.left)
-  linked-if (Ok u) (Err e) M s = elim s.answered [
-    | inl refused ↦ absurd (cc)
-    | inr lacks ↦ (ap (λ (h : NodeState). world_from h H) (s.left ∙ rw lacks.0 refl), inr (lacks.0, refl))
-  ]
-  linked-if (Err f) (Ok v) M s = absurd (cc (s.answered))
-  linked-if (Err f) (Err e) M s = elim s.answered [
-    | inl refused ↦ (ap (λ (h : NodeState). world_from h H) (either (is_no_memory e) N M s.left), inl (cc))
-    | inr lacks ↦ absurd (true≢false (sym lacks.1))
-  ]
-
-  pub link-does : (r : Result (Unit {0}) Errno) (M : NodeState) → Steps N (link_at dir name m N) r M → Does before (links_at before dir name m) naming (λ u. tt) r (world_from M H)
-  link-does r M s = linked-if (can_link dir name m N) r M s
+  asked-does q r M s = alike-does (λ M. world_from M H) N did (λ d. d.told) _ _ (asked_alike (effect_at q n N)) r M s
 
 -- a server's refusal that is told is its own
 told-refused : {T : Type 0} (x : Effect T) (e : Errno) → Err e ≡ told_of x → x ≡ Err e

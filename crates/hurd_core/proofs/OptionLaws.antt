@@ -1,16 +1,13 @@
 -- What options make of a server is what the machine's changes make of the world.
-use Rattle.std.proofs.Common.{◌≡◌, ◌∙◌, ℕ, Bool, true, false, cond, List, [], ◌∷◌, Option, Some, None, refl, sym, ap, subst, true≢false, inl, inr}
+use Rattle.std.proofs.Common.{◌≡◌, ℕ, Bool, true, false, List, [], ◌∷◌, Option, Some, None, refl}
 use Rattle.std.specs.Prelude.{Result, Ok, Err}
-use Rattle.hurd_machine.proofs.Common.{Errno, Name, NodeState, OnHeader, Plan, Planned, PortState, Reply, ServerInfo, Steps, World, apply_all, changes_of, edit, get, is_no_memory, keeps_tree, own_nodes, retexting, size_of, sizing, sizing_unless, takes_options, told, with_edits, with_size, with_text, world_from}
+use Rattle.hurd_machine.proofs.Common.{Change, Errno, Name, NodeState, OnHeader, Planned, PortState, ServerInfo, Steps, World, apply_all, changes_of, edit, get, keeps_tree, own_nodes, retexting, size_of, sizing, sizing_unless, takes_options, told, with_edits, with_size, with_text, world_from}
 use Rattle.hurd_nodes.specs.Shown.{retexted, retexted_if, set_options_at}
 use Rattle.hurd_machine.specs.declared.call.Reply.TheVariants.{Done}
 use Rattle.hurd_machine.specs.Plan.{Follows}
 use Rattle.hurd_core.specs.Control.{plan_options}
-use Rattle.hurd_core.proofs.PlanLaws.{asked-refused, asked-lacks, asked-done, follows-refused, follows-then}
-
-cond_one : {X : Type 0} (b : Bool) (x : X) → cond b x x ≡ x
-cond_one true x = refl
-cond_one false x = refl
+use Rattle.hurd_core.proofs.PlanLaws.{does-planned}
+use Rattle.hurd_core.proofs.SettleLaws.{Alike, alike-does, alike-follows}
 
 -- nodes that get a size are nodes of the world that do
 sized : (H : PortState) (k : ℕ) (ns : List Name) (N : NodeState) → world_from (with_edits (sizing k ns) N) H ≡ apply_all (changes_of (sizing k ns)) (world_from N H)
@@ -29,49 +26,24 @@ module _ (N : NodeState) (H : PortState) (s : Name) (words : List (List ℕ)) wh
   abbrev asks : Result (ServerInfo × Option (List ℕ)) Errno
   asks = takes_options words (get N.servers s)
 
-  abbrev gets : ServerInfo × Option (List ℕ) → Plan
-  gets a = record { reply = Done; changes = retexting w s a.0 a.1 }
-
-  abbrev tells : Unit {0} → Reply
-  tells u = Done
+  abbrev texts : ServerInfo × Option (List ℕ) → List Change
+  texts a = retexting w s a.0 a.1
 
   retexted_world : (i : ServerInfo) (o : Option (List ℕ)) → world_from (retexted s i o N) H ≡ apply_all (retexting w s i o) w
   retexted_world i None = refl
   retexted_world i (Some text) = sized_unless H (keeps_tree i.kind) (size_of i.kind text) (own_nodes s N.sites) (record N { servers = edit s (with_text text) N.servers })
 
-  planned_by : (a : Result (ServerInfo × Option (List ℕ)) Errno) → asks ≡ a → (r : Result (Unit {0}) Errno) (M : NodeState) → Steps N (retexted_if s a N) r M
-      → Planned w (plan_options w s words) tells r (world_from M H)
-  planned_by (Err g) is (Ok u) M h = let refused = h.answered in absurd (cc)
-  planned_by (Err g) is (Err e) M h = elim h.answered [
-    | inl bars ↦
-        let same : g ≡ e = cc in
-        subst (λ (K : NodeState). Planned w (plan_options w s words) tells (Err e) (world_from K H)) (sym (h.left ∙ cond_one (is_no_memory e) N))
-        (asked-refused w asks gets tells e (is ∙ ap Err same))
-    | inr lacks ↦ absurd (true≢false (sym lacks.1))
-  ]
-  planned_by (Ok t) is (Ok u) M h = asked-done w asks gets tells t u (world_from M H) is refl (ap (λ (K : NodeState). world_from K H) h.left ∙ retexted_world t.0 t.1)
-  planned_by (Ok t) is (Err e) M h = elim h.answered [
-    | inl refused ↦ absurd (cc)
-    | inr lacks ↦
-        let kept : M ≡ N = h.left ∙ ap (λ (f : Errno). cond (is_no_memory f) N (retexted s t.0 t.1 N)) lacks.0 in
-        asked-lacks w asks gets tells t e (world_from M H) is refl (ap (λ (K : NodeState). world_from K H) kept) lacks.0
-  ]
+  retexted_alike : (a : Result (ServerInfo × Option (List ℕ)) Errno) → Alike (λ M. world_from M H) N texts (λ a. tt {0}) a (retexted_if s a N)
+  retexted_alike (Ok t) = (refl, retexted_world t.0 t.1)
+  retexted_alike (Err e) = (refl, refl)
 
-  pub options-planned : (r : Result (Unit {0}) Errno) (M : NodeState) → Steps N (set_options_at s words N) r M → Planned w (plan_options w s words) tells r (world_from M H)
-  options-planned r M h = planned_by asks refl r M h
-
-  follows_by : (a : Result (ServerInfo × Option (List ℕ)) Errno) → asks ≡ a → (r : Result (Unit {0}) Errno) (M : NodeState) → ◌≡◌ {A = Result (Unit {0}) Errno × NodeState} (r, M) (retexted_if s a N)
-      → Follows w (plan_options w s words) (told tells r) (world_from M H)
-  follows_by (Err g) is r M h =
-      subst (λ (z : Result (Unit {0}) Errno × NodeState). Follows w (plan_options w s words) (told tells z.0) (world_from z.1 H)) (sym h)
-      (follows-refused w asks gets g is)
-  follows_by (Ok t) is r M h =
-      subst (λ (z : Result (Unit {0}) Errno × NodeState). Follows w (plan_options w s words) (told tells z.0) (world_from z.1 H)) (sym h)
-      (follows-then w asks gets t Done (world_from (retexted s t.0 t.1 N) H) is (refl, retexted_world t.0 t.1))
+  pub options-planned : (r : Result (Unit {0}) Errno) (M : NodeState) → Steps N (set_options_at s words N) r M → Planned w (plan_options w s words) (λ u. Done) r (world_from M H)
+  options-planned r M h =
+      does-planned w asks texts (λ a. tt {0}) _ (λ u. Done) r (world_from M H) (λ a. (refl, refl)) (λ a. refl) (alike-does (λ M. world_from M H) N texts (λ a. tt) _ _ (retexted_alike asks) r M h)
 
   pub options-follow : (r : Result (Unit {0}) Errno) (M : NodeState) → ◌≡◌ {A = Result (Unit {0}) Errno × NodeState} (r, M) (set_options_at s words N)
-      → Follows w (plan_options w s words) (told tells r) (world_from M H)
-  options-follow r M h = follows_by asks refl r M h
+      → Follows w (plan_options w s words) (told (λ u. Done) r) (world_from M H)
+  options-follow r M h = alike-follows (λ M. world_from M H) N texts (λ a. tt) (λ u. Done) _ _ (retexted_alike asks) r M h
 
   -- the sites stay
   pub options-sites : (set_options_at s words N).1.sites ≡ N.sites

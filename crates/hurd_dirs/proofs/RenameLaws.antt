@@ -2,12 +2,14 @@
 use Rattle.std.proofs.Common.{◌≡◌, ◌≢◌, ◌⊎◌, ◌∙◌, ℕ, ◌&&◌, ◌||◌, not, Bool, true, false, true≢false, if◌then◌else◌, List, [], ◌∷◌, ◌++◌, Option, Some, None, refl, sym, subst, inl, inr, ap, ap₂}
 use Rattle.std.specs.Prelude.{Result, Ok, Err, is_some}
 use Rattle.std.specs.Option.{option_map}
-use Rattle.hurd_machine.proofs.Common.{AnEmpty, AttrOf, Body, BodyOf, Change, Coherent, Dir, EACCES, EBUSY, EDIED, EINVAL, EISDIR, ENOENT, ENOTDIR, ENOTEMPTY, EROFS, EXDEV, EditBody, EditHeader, EmptyOf, Errno, Header, LeadsUp, Linked, Listing, Name, Named, Part, Plan, Planned, Seen, Sees, Sound, World, active_at, apply, apply_all, are_kin, body_at, both_asks, entry_of, get, header_at, home_at, info_at, is_dir, is_empty_dir, is_removed, less_entry, lists_at, may, renames_at, same_name, tree_by, unlinked, with_body, with_header, without_entry}
+use Rattle.hurd_machine.proofs.Common.{AnEmpty, AttrOf, Body, BodyOf, Change, Coherent, Dir, EACCES, EBUSY, EDIED, EINVAL, EISDIR, ENOENT, ENOTDIR, ENOTEMPTY, EROFS, EXDEV, EditBody, EditHeader, EmptyOf, Errno, Header, LeadsUp, Linked, Listing, Name, Named, Node, NodeMap, Part, Plan, Planned, Seen, Sees, ServerInfo, Sound, World, active_at, apply, apply_all, are_kin, body_at, both_asks, edit, entry_of, get, header_at, home_at, info_at, is_dir, is_empty_dir, is_removed, less_entry, lists_at, may, moved_to, renames_at, same_name, tree_by, unlinked, with_body, with_entry, with_header, without_entry}
 use Rattle.std.proofs.lemmas.Bool.{and_parts, not-true}
 use Rattle.hurd_creds.proofs.NameLaws.{same_or_apart, apart_if_not_same, same_name-apart, edit_apart}
 use Rattle.hurd_trans_iface.specs.Nodes.{Entry}
 use Rattle.hurd_trans_iface.proofs.Goods.{good}
 use Rattle.hurd_machine.specs.declared.call.Reply.TheVariants.{Done}
+use Rattle.hurd_nodes.specs.Shown.{rename_by}
+use Rattle.hurd_machine.specs.Change.{settle}
 use Rattle.hurd_machine.specs.World.{nodes_of}
 use Rattle.hurd_machine.proofs.Nodes.{header_in, body_in, node_of_header, edit_keeps, edit_reads, header-with_header, header-with_body, body-with_header, body-with_body}
 use Rattle.hurd_machine.proofs.Views.{Agree, header_same, home_same, active_same, body_same}
@@ -31,7 +33,7 @@ use Rattle.hurd_dirs.specs.Rename.{parent_in, is_inside, trees_ask, leaves_asks,
 use Rattle.hurd_dirs.proofs.EntryLaws.{IsOpenTree, open_tree, dir_kind, name_plain, named_seen, entries_seen, child_seen, child_empty}
 use Rattle.hurd_machine.proofs.BothLaws.{AreNamed, are_named, both_same, both_plain}
 use Rattle.hurd_dirs.proofs.RemoveLaws.{kin_itself, empty_none, empty_by, removable}
-use Rattle.hurd_dirs.proofs.OrderLaws.{goes-alone, goes-over, may_rename}
+use Rattle.hurd_dirs.proofs.OrderLaws.{head_turned, replaced_turned}
 use Rattle.hurd_dirs.proofs.ClimbLaws.{inside_same, inside_around, inside_fewer}
 use Rattle.hurd_machine.proofs.Piece.{Stands, Piece, Whole, stands, whole_none, piece_then, settled}
 
@@ -402,12 +404,30 @@ module _ (t p q : ℕ) (name new : List ℕ) where
     to : are_kin (home_at w r.from) (home_at w r.to) ≡ true
     to = sym (ap (are_kin (home_at w r.from)) f.trees.kin) ∙ own
 
+    may_rename : renames_at w r.from name r.to ≡ Ok tt
+    may_rename =
+        ap (λ k. rename_by name k (info_at w r.from) (get w.nodes r.from) (get w.nodes r.to)) to
+        ∙ go (info_at w r.from) (get w.nodes r.from) (get w.nodes r.to) f.named.one.is_header f.trees.from.tree f.named.other.is_header f.leaving.entry
+      where
+        go : (i : Option ServerInfo) (o u : Option Node) → header_in o ≡ Some a.header → tree_by i ≡ true → header_in u ≡ Some b.header → entry_of name (body_in o) ≡ Some r.node → rename_by name true i o u ≡ Ok tt
+        go (Some i) (Some x) (Some y) eh et eu en =
+            let one : x.header ≡ a.header = cc (eh) in
+            let two : y.header ≡ b.header = cc (eu) in
+            rw (one, two, f.trees.from.dir, et, f.trees.to.dir, en) refl
+        go _ _ _ eh et eu en = absurd (cc)
+
+    abbrev with_nodes : NodeMap → World
+    with_nodes m = settle (record w { nodes = m })
+
+    -- all edits are of the directory's server, which makes all of them
     done_as_asked : is_there r.node r.old ≡ false → IsDone w r
     done_as_asked other = (
-      may_rename w r.from name r.node r.to a.header b.header f.named.one.is_header (ap is_dir f.trees.from.dir) f.trees.from.tree to f.named.other.is_header (ap is_dir f.trees.to.dir) f.leaving.entry,
+      may_rename,
       by_old w b l r name new (λ cs. apply_all (core.renaming w r.from name r.to new) w ≡ apply_all cs w) refl f.old (λ there. absurd (true≢false (sym there ∙ other)))
-          (λ none. goes-alone w r.from name r.node r.to new f.leaving.entry own to f.leaving.kin none)
-          (λ m some apart gives. goes-over w r.from name r.node r.to new f.leaving.entry own to f.leaving.kin m some (same_name-apart r.node m (λ e. apart (sym e))) (ap (λ z. are_kin z (home_at w m)) f.trees.kin ∙ gives.kin)),
+          (λ none. rw (f.leaving.entry, none, own, to, f.leaving.kin) (ap with_nodes (head_turned (edit r.from (with_body (without_entry name)) w.nodes) r.node r.to (moved_to r.to) (with_entry new r.node))))
+          (λ m some apart gives.
+          let kin : are_kin (home_at w r.from) (home_at w m) ≡ true = ap (λ z. are_kin z (home_at w m)) f.trees.kin ∙ gives.kin in
+          rw (f.leaving.entry, some, same_name-apart r.node m (λ e. apart (sym e)), own, to, f.leaving.kin, kin) (ap with_nodes (replaced_turned w.nodes r.from name r.node r.to new m))),
     )
 
   is_done : (w : World) (r : Renaming) → rename_asks w t p name q new ≡ Ok r → is_there r.node r.old ≡ false → IsDone w r

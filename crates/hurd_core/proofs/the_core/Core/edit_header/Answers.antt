@@ -1,6 +1,6 @@
 -- The nodes with the header edited are the world with it.
 use Rattle.hurd_machine.proofs.Common.{Errno, NodeState, shown}
-use Rattle.hurd_core.proofs.CoreLaws.{header-follow}
+use Rattle.hurd_core.proofs.EditLaws.{header-follow}
 use Rattle.std.proofs.Common.{ap, refl}
 use Rattle.std.specs.Prelude.{Result}
 use Rattle.hurd_core.proofs.UserLaws.{users_still}

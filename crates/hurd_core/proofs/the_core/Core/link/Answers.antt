@@ -1,6 +1,6 @@
 use Rattle.std.proofs.Common.{refl}
 use Rattle.hurd_nodes.specs.Shown.{shown}
-use Rattle.hurd_core.proofs.NeedLaws.{link-does}
+use Rattle.hurd_core.proofs.EditLaws.{link-does}
 use Rattle.hurd_core.proofs.UserLaws.{users_stepped}
 use Rattle.hurd_core.proofs.the_core.Core.link.Goals as goal
 

@@ -2,7 +2,7 @@
 use Rattle.std.proofs.Common.{Some}
 use Rattle.std.proofs.lemmas.Result.{err_from_is_err_and}
 use Rattle.hurd_machine.proofs.Common.{shown, uses_server}
-use Rattle.hurd_core.proofs.RightLaws.{pend-does, pend-refused}
+use Rattle.hurd_core.proofs.RightLaws.{pend-does}
 use Rattle.std.proofs.Common.{ap, refl, ◌∙◌}
 use Rattle.hurd_core.proofs.UserLaws.{pend_same, users_still}
 use Rattle.hurd_ports.specs.Tables.{PortState, count_rights}
@@ -12,7 +12,7 @@ pub returns-in_err-pend : goal.returns-in_err-pend
 returns-in_err-pend g c =
     let p = err_from_is_err_and c.from_residual.result c.from_residual.ensures.1 in
     rw (p.1, p.2, ← c.self.view_is)
-    (pend-refused (shown g.S.Server.meaning c.self.inside.nodes) c.self.inside.ports.state c.args.task.0 (Some c.args.start) _ _ c.in_err-pend.ensures.answer)
+    (pend-does (shown g.S.Server.meaning c.self.inside.nodes) c.self.inside.ports.state c.args.task.0 (Some c.args.start) _ _ c.in_err-pend.ensures.answer _ refl)
 
 pub returns : goal.returns
 returns g c =
