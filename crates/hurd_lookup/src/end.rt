@@ -145,6 +145,7 @@ fn make_asked<'a, S: Server>(
 /// What is to be done at the end of the names.
 ///
 /// Errors: those of `open_asked`, or of `make_asked`.
+#[inline(always)]
 pub(crate) fn end_asked<'a, S: Server>(
     core: &Core<S>,
     authority: Authority,
