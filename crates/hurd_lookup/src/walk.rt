@@ -142,11 +142,11 @@ fn step_by<S: Server>(
 fn step_asked<S: Server>(
     core: &Core<S>,
     authority: Authority,
-    here: Here,
+    here: &Here,
     name: &[u8],
 ) -> Result<Next, Errno>
-    requires { IsHere (world_of S.meaning core.now) here }
-    ensures { result ≡ step_asks (world_of S.meaning core.now) (authority_of authority.entry) here.node name.now }
+    requires { IsHere (world_of S.meaning core.now) here.now }
+    ensures { result ≡ step_asks (world_of S.meaning core.now) (authority_of authority.entry) here.now.node name.now }
 {
     let Some(attrs) = here.attrs else {
         return Err(Errno::EDIED);
@@ -291,7 +291,7 @@ fn stepped<'a, S: Server>(
         Goes w q (λ onward. first (step_asks w q here.node name.entry.now) (stepped w q request here.node name.entry.now (names_in rest.entry.now) onward)) result }
 {
     let dir = here.node;
-    match step_asked(core, authority, here, name)? {
+    match step_asked(core, authority, &here, name)? {
         Next::There(node) => Ok(Step::On(Here::at(core, node))),
         Next::Entry(node) => over(core, authority, request, dir, node, rest),
         Next::Branch(branch) => Ok(Step::To(go_into(request, branch, path))),
