@@ -60,6 +60,7 @@ impl Authority<'_> {
     }
 
     /// A port with the ids that this goes by.
+    #[inline(always)]
     pub(crate) fn port(
         &self,
         alloc: Global,
@@ -97,6 +98,7 @@ impl NewPort {
     /// Makes the port, with an open of these modes.
     ///
     /// Errors, in order: `ESRCH` no such task, `EOVERFLOW`, `ENOMEM`.
+    #[inline(always)]
     pub(crate) fn open<S: Server>(
         self,
         core: &mut Core<S>,

@@ -31,6 +31,7 @@ pub(crate) enum Met {
 
 /// What there is to cross at a node: the server that is active there, or else the translator that waits there, if one does.
 /// Where a server is active, the node isn't asked what it is.
+#[inline(always)]
 fn crossed_at<S: Server>(core: &Core<S>, node: NodeName) -> Met
     ensures { let w = world_of S.meaning core.now in Meeting w node (crossed_at w node) result }
 {
@@ -49,6 +50,7 @@ fn crossed_at<S: Server>(core: &Core<S>, node: NodeName) -> Met
 }
 
 /// What is to be crossed at a node, before what is left of the path: nothing at the last node with `NOTRANS`.
+#[inline(always)]
 pub(crate) fn to_cross<S: Server>(
     core: &Core<S>,
     request: Request,

@@ -69,11 +69,11 @@ fn open_asked<S: Server>(
     core: &Core<S>,
     ids: &Ids,
     request: Request,
-    here: Here,
+    here: &Here,
 ) -> Result<(), Errno>
-    requires { IsHere (world_of S.meaning core.now) here }
-    ensures { (ways : List Parent) → open_asks (world_of S.meaning core.now) ids.now request here.node ways
-        ≡ opened (record { node = here.node; ids = ids.now; parents = ways }) result }
+    requires { IsHere (world_of S.meaning core.now) here.now }
+    ensures { (ways : List Parent) → open_asks (world_of S.meaning core.now) ids.now request here.now.node ways
+        ≡ opened (record { node = here.now.node; ids = ids.now; parents = ways }) result }
 {
     let Some(attrs) = here.attrs else {
         return Err(Errno::EDIED);
@@ -111,12 +111,12 @@ fn make_asked<'a, S: Server>(
     core: &Core<S>,
     authority: Authority,
     request: Request,
-    here: Here,
+    here: &Here,
     name: &'a [u8],
 ) -> Result<Outcome<'a>, Errno>
-    requires { IsHere (world_of S.meaning core.now) here }
+    requires { IsHere (world_of S.meaning core.now) here.now }
     ensures { let w = world_of S.meaning core.now in let q = authority_of authority.entry in
-        Finds (outcome_of w q) (CanEnd w q) (make_asks w q request here.node name.entry.now) result }
+        Finds (outcome_of w q) (CanEnd w q) (make_asks w q request here.now.node name.entry.now) result }
 {
     let dir = here.node;
     core.can_make(dir, Some(name), Kind::File)?;
@@ -145,6 +145,7 @@ fn make_asked<'a, S: Server>(
 /// What is to be done at the end of the names.
 ///
 /// Errors: those of `open_asked`, or of `make_asked`.
+#[inline(always)]
 pub(crate) fn end_asked<'a, S: Server>(
     core: &Core<S>,
     authority: Authority,
@@ -157,10 +158,10 @@ pub(crate) fn end_asked<'a, S: Server>(
 {
     match place {
         Place::AtNode(here, entered) => {
-            open_asked(core, authority.ids, request, here)?;
+            open_asked(core, authority.ids, request, &here)?;
             Ok(Outcome::Opens(here.node, entered))
         }
-        Place::AtName(here, name) => make_asked(core, authority, request, here, name),
+        Place::AtName(here, name) => make_asked(core, authority, request, &here, name),
         Place::Elsewhere(retry) => Ok(Outcome::Retries(retry)),
         Place::Waits(node) => Ok(Outcome::Starts(node)),
     }

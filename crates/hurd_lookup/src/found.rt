@@ -41,6 +41,7 @@ impl<'p> FoundAt<'_, 'p> {
     /// Whether the task has room for a port of it, if it makes one.
     ///
     /// Errors, in order: `ESRCH` no such task, `EOVERFLOW`.
+    #[inline(always)]
     fn has_room<S: Server>(&self, core: &Core<S>, task: TaskId) -> Result<(), Errno>
         ensures { let w = world_of S.meaning core.now in result ≡ asked_only (ending_asks w task.0 (found_of w self.now)) }
     {
@@ -68,6 +69,7 @@ impl<'p> FoundAt<'_, 'p> {
     /// Takes room for a port of it, the ids and ways that the port has, and the name that is told.
     ///
     /// Errors, in order: those of `has_room`, `ENOMEM`.
+    #[inline(always)]
     pub(crate) fn ready<S: Server>(
         self,
         core: &Core<S>,
@@ -109,6 +111,7 @@ impl Ready<'_> {
     /// Opens the node, makes the file and opens it, makes the port of a retry, or has the task start what waits on a node.
     ///
     /// `ENOMEM`.
+    #[inline(always)]
     pub(crate) fn done<S: Server>(
         self,
         core: &mut Core<S>,

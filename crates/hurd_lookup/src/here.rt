@@ -17,6 +17,7 @@ pub(crate) struct Here {
 
 impl Here {
     /// The node of this name.
+    #[inline(always)]
     pub(crate) fn at<S: Server>(core: &Core<S>, node: NodeName) -> Here
         ensures node { result.node ≡ node }
         ensures here { IsHere (world_of S.meaning core.now) result }
@@ -28,6 +29,7 @@ impl Here {
     }
 
     /// Whether a translator waits there: words are stored with the node.
+    #[inline(always)]
     pub(crate) fn has_words(self) -> bool
         ensures { result ≡ tells_words self.attrs }
     {

@@ -25,6 +25,7 @@ use std::alloc::Global;
 ///
 /// Errors, in order: `ESRCH`, `EBADF`, `EDIED`, `ENAMETOOLONG`, those of `walk`, those of `end_asked`.
 #[tactic(auto, unfolding(hurd_machine::specs::Plan::on, hurd_machine::specs::Plan::given, hurd_machine::specs::Plan::first))]
+#[inline(always)]
 pub(crate) fn found_asked<'a, 'p, S: Server>(
     core: &'a Core<S>,
     task: TaskId,

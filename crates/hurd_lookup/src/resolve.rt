@@ -115,8 +115,8 @@ fn onward<S: Server>(
 ///
 /// Errors, in order: `EDIED` it is gone, `ENOTDIR` a directory is asked for.
 #[tactic(auto, unfolding(hurd_machine::specs::Plan::on, hurd_machine::specs::Plan::given))]
-fn landed(request: Request, here: Here) -> Result<NodeName, Errno>
-    ensures { (w : World) → IsHere w here → (onward : LegAt → Result LandingAt Refusal) (ways : List Parent) → lands result ≡ landed w request onward (AtNode here.node ways) }
+fn landed(request: Request, here: &Here) -> Result<NodeName, Errno>
+    ensures { (w : World) → IsHere w here.now → (onward : LegAt → Result LandingAt Refusal) (ways : List Parent) → lands result ≡ landed w request onward (AtNode here.now.node ways) }
 {
     let Some(attrs) = here.attrs else {
         return Err(Errno::EDIED);
@@ -144,7 +144,7 @@ fn ended<S: Server>(
 {
     match place {
         Place::AtNode(here, _) => {
-            let node = landed(request, here)?;
+            let node = landed(request, &here)?;
             Ok(Looked::Ends(Landing::Lands(node)))
         }
         Place::AtName(_, _) => Err(Errno::ENOENT),

@@ -111,6 +111,7 @@ fn branch_in<S: Server>(core: &Core<S>, ids: &Ids, branches: &[NodeName], name: 
 }
 
 /// Where a name leads from a directory of these attributes.
+#[inline(always)]
 fn step_by<S: Server>(
     core: &Core<S>,
     authority: Authority,
@@ -137,14 +138,15 @@ fn step_by<S: Server>(
 /// Errors, in order: `EDIED` no such node, `ENOTDIR`, `EACCES` the ids may not search it, `ENOENT` for `..` in a removed
 /// directory.
 #[tactic(auto, unfolding(hurd_machine::specs::Plan::on, hurd_machine::specs::Plan::given))]
+#[inline(always)]
 fn step_asked<S: Server>(
     core: &Core<S>,
     authority: Authority,
-    here: Here,
+    here: &Here,
     name: &[u8],
 ) -> Result<Next, Errno>
-    requires { IsHere (world_of S.meaning core.now) here }
-    ensures { result ≡ step_asks (world_of S.meaning core.now) (authority_of authority.entry) here.node name.now }
+    requires { IsHere (world_of S.meaning core.now) here.now }
+    ensures { result ≡ step_asks (world_of S.meaning core.now) (authority_of authority.entry) here.now.node name.now }
 {
     let Some(attrs) = here.attrs else {
         return Err(Errno::EDIED);
@@ -231,6 +233,7 @@ fn go_back<'a, S: Server>(
 ///
 /// Errors, in order: `EEXIST` it is the last, and refused where it is there, those of `cross`.
 #[tactic(auto, unfolding(hurd_machine::specs::Plan::given))]
+#[inline(always)]
 fn over<'a, S: Server>(
     core: &Core<S>,
     authority: Authority,
@@ -272,6 +275,7 @@ fn go_into<'a>(request: Request, branch: NodeName, path: &'a [u8]) -> Place<'a>
 ///
 /// Errors, in order: those of `step_asked`, those of `over`, of `go_back`, or `ENOENT` where the name is missed.
 #[tactic(auto, unfolding(hurd_machine::specs::Plan::first))]
+#[inline(always)]
 fn stepped<'a, S: Server>(
     core: &Core<S>,
     authority: Authority,
@@ -287,7 +291,7 @@ fn stepped<'a, S: Server>(
         Goes w q (λ onward. first (step_asks w q here.node name.entry.now) (stepped w q request here.node name.entry.now (names_in rest.entry.now) onward)) result }
 {
     let dir = here.node;
-    match step_asked(core, authority, here, name)? {
+    match step_asked(core, authority, &here, name)? {
         Next::There(node) => Ok(Step::On(Here::at(core, node))),
         Next::Entry(node) => over(core, authority, request, dir, node, rest),
         Next::Branch(branch) => Ok(Step::To(go_into(request, branch, path))),
@@ -299,6 +303,7 @@ fn stepped<'a, S: Server>(
 /// Goes from a node along the names of a path. Each node on the way is asked once what it is.
 ///
 /// Errors, at each name: those of `stepped`; at the end `EEXIST`.
+#[inline(always)]
 pub(crate) fn walk<'a, S: Server>(
     core: &Core<S>,
     authority: Authority,
