@@ -15,6 +15,7 @@ use hurd_trans_iface::{HeaderEdit, Server};
 /// (`fs.defs`). Takes no memory.
 ///
 /// Errors, in order: `ESRCH` no such task, `EBADF` no such port, `EDIED` no such node.
+#[tactic(auto, unfolding(hurd_machine::specs::Plan::answered))]
 pub fn file_check_access<S: Server>(
     core: &Core<S>,
     task: TaskId,
@@ -46,6 +47,7 @@ fn chmod_asked<S: Server>(core: &Core<S>, task: TaskId, port: u64) -> Result<Por
 ///
 /// Errors, in order: `ESRCH` no such task, `EBADF` no such port, `EDIED` no such node, `EOPNOTSUPP` its server keeps no
 /// tree, `EPERM` the port's ids hold neither the node's owner nor uid 0.
+#[tactic(auto, unfolding(hurd_machine::specs::Plan::answered))]
 pub fn file_chmod<S: Server>(
     core: &mut Core<S>,
     task: TaskId,
@@ -91,6 +93,7 @@ fn chown_asked<S: Server>(
 /// Errors, in order: `ESRCH` no such task, `EBADF` no such port, `EDIED` no such node, `EOPNOTSUPP` its server keeps no
 /// tree, `EPERM` unless the port's ids hold uid 0, or the node's owner who keeps it, with its present group or one of the
 /// port's gids.
+#[tactic(auto, unfolding(hurd_machine::specs::Plan::answered))]
 pub fn file_chown<S: Server>(
     core: &mut Core<S>,
     task: TaskId,

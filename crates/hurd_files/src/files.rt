@@ -27,6 +27,7 @@ fn set_size_asked<S: Server>(core: &Core<S>, task: TaskId, port: u64) -> Result<
 ///
 /// Errors, in order: `ESRCH` no such task, `EBADF` no such port, or not opened to write, `EDIED` no such node, `EFBIG` a
 /// size past 16,777,216, `ENOMEM`.
+#[tactic(auto, unfolding(hurd_machine::specs::Plan::answered))]
 pub fn file_set_size<S: Server>(
     core: &mut Core<S>,
     task: TaskId,
@@ -80,6 +81,7 @@ fn with_dots(alloc: Global, mut names: Names) -> Result<Names, AllocError>
 ///
 /// Errors, in order: `ESRCH` no such task, `EBADF` no such port, or not opened to read, `EDIED` no such node, `ENOTDIR`,
 /// `ENOMEM`.
+#[tactic(auto, unfolding(hurd_machine::specs::Plan::answered))]
 pub fn dir_readdir<S: Server>(
     core: &Core<S>,
     alloc: Global,

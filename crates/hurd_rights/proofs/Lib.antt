@@ -1,2 +1,1 @@
-pub mod MakeauthLaws
 pub mod RightsLaws

@@ -12,11 +12,7 @@ mod replies;
 mod rows;
 mod world;
 
-pub use hurd_laws::{
-    changes_touched, confined, confined_run, gone_unseen, integrity, integrity_run, isolated,
-    isolated_by_view, never_wants_memory, others_unseen, own_from_view, quiet_unmoved,
-    side_by_side, stays_sound, view_settled,
-};
+pub use hurd_laws::laws;
 pub use hurd_machine::{Call, Lookup, Reply, RetryKind, Whence};
 pub use hurd_names::{names_untold, raised_looks_same, renamed_sound, side_by_side_renamed};
 pub use hurd_touches::Noted;

@@ -1,18 +1,10 @@
 -- What is asked, and what the core sets.
 use Rattle.std.proofs.Common.{sym}
-use Rattle.std.proofs.lemmas.Result.{err_from_is_err_and}
 use Rattle.hurd_core.specs.Core.{world_of}
 use Rattle.hurd_core.specs.PortNode.{named_of}
-use Rattle.hurd_core.proofs.PlanLaws.{follows-refused}
-use Rattle.hurd_files.specs.Access.{setting_asks, gives}
+use Rattle.hurd_files.specs.Access.{gives}
 use Rattle.hurd_files.proofs.AccessLaws.{setting-follows}
 use Rattle.hurd_files.proofs.access.file_chown.Goals as goal
-
-pub returns-in_err-named : goal.returns-in_err-named
-returns-in_err-named g c =
-    let w = world_of g.S.Server.meaning c.args.core.now in
-    let p = err_from_is_err_and c.from_residual.result c.from_residual.ensures.1 in
-    rw (p.1, p.2) (follows-refused w (setting_asks w c.args.task.0 c.args.port (gives c.args.owner c.args.group)) _ _ (sym c.in_err-named.ensures))
 
 pub returns : goal.returns
 returns g c =

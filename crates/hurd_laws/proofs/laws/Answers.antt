@@ -1,0 +1,25 @@
+use Rattle.hurd_laws.proofs.Assembled.{changes_touched, gone_unseen, never_wants_memory, others_unseen, own_from_view, stays_sound}
+use Rattle.hurd_laws.proofs.StaysConfined.{confined, confined_run}
+use Rattle.hurd_laws.proofs.Headline.{isolated, isolated_by_view, quiet_unmoved, side_by_side, view_settled}
+use Rattle.hurd_laws.proofs.ReasonsStep.{integrity}
+use Rattle.hurd_laws.proofs.SparedRun.{integrity_run}
+use Rattle.hurd_laws.proofs.laws.Goals as goal
+
+pub returns : goal.returns
+returns c = record {
+  changes_touched = changes_touched;
+  gone_unseen = gone_unseen;
+  others_unseen = others_unseen;
+  own_from_view = own_from_view;
+  stays_sound = stays_sound;
+  never_wants_memory = never_wants_memory;
+  confined = confined;
+  confined_run = confined_run;
+  isolated = isolated;
+  quiet_unmoved = quiet_unmoved;
+  isolated_by_view = isolated_by_view;
+  side_by_side = side_by_side;
+  view_settled = view_settled;
+  integrity = integrity;
+  integrity_run = integrity_run;
+}
