@@ -5,6 +5,7 @@ use Rattle.hurd_words.specs.Reading.{behind}
 use Rattle.hurd_words.specs.Words.{escape_code, onto}
 use Rattle.hurd_words.proofs.Loops.{behind-push}
 use Rattle.hurd_lists.specs.Words.{bytes_after, hex_byte}
+use Rattle.hurd_lists.specs.declared.words.Escape.{Escape}
 use Rattle.hurd_lists.specs.declared.words.Escape.TheVariants.{Plain, Begun, Hex, Half}
 
 -- a byte where an escape has come so far
@@ -62,14 +63,7 @@ pub ends_plain : bytes_after Plain [] ≡ Some []
 unfolding bytes_after
 ends_plain = refl
 
-pub open_begun : bytes_after Begun [] ≡ None
+pub left_open : (e : Escape) → e ≢ Plain → bytes_after e [] ≡ None
 unfolding bytes_after
-open_begun = refl
-
-pub open_hex : bytes_after Hex [] ≡ None
-unfolding bytes_after
-open_hex = refl
-
-pub open_half : (high : ℕ) → bytes_after (Half high) [] ≡ None
-unfolding bytes_after
-open_half high = refl
+left_open Plain other = absurd (other refl)
+left_open _ other = refl

@@ -12,7 +12,6 @@ use hurd_machine::Whence;
 use hurd_trans_iface::Words;
 use hurd_words::fault::ReadFault;
 use hurd_words::users::{ids_from, parts};
-use hurd_words::words::is;
 use std::alloc::Global;
 
 /// The most that an offset below zero may be away from it.
@@ -148,14 +147,11 @@ pub fn whence(word: &[u8]) -> Result<Whence, ReadFault>
 fn whence_named(name: &str) -> Option<Whence>
     ensures { result ≡ whence_named name.now }
 {
-    if is(name, "Set") {
-        Some(Whence::Set)
-    } else if is(name, "Current") {
-        Some(Whence::Current)
-    } else if is(name, "End") {
-        Some(Whence::End)
-    } else {
-        None
+    match name {
+        "Set" => Some(Whence::Set),
+        "Current" => Some(Whence::Current),
+        "End" => Some(Whence::End),
+        _ => None,
     }
 }
 
@@ -165,7 +161,7 @@ fn flags<F: Flags>(alloc: Global, word: &[u8]) -> Result<F, ReadFault>
     ensures { Reads F.set_of (bits_of F.table word.now) result }
 {
     let word = text(word)?;
-    if is(word, "-") {
+    if word == "-" {
         return Ok(F::empty());
     }
     listed_flags(alloc, word)

@@ -2,8 +2,6 @@
 ghost use Rattle.std.specs.Prelude.{◌≡◌};
 ghost use Rattle.hurd_lists.specs.Verbs.{dir_verb, file_verb, fsys_verb, io_verb, port_verb, share_verb, translator_verb, verb_of};
 
-use hurd_words::words::is;
-
 /// What a call is named.
 #[derive(Clone, Copy, Debug, PartialEq, Eq)]
 pub enum Verb {
@@ -50,16 +48,12 @@ pub enum Verb {
 fn port_verb(name: &str) -> Option<Verb>
     ensures { result ≡ port_verb name.now }
 {
-    if is(name, "port_deallocate") {
-        Some(Verb::PortDeallocate)
-    } else if is(name, "port_send") {
-        Some(Verb::PortSend)
-    } else if is(name, "port_receive") {
-        Some(Verb::PortReceive)
-    } else if is(name, "auth_makeauth") {
-        Some(Verb::AuthMakeauth)
-    } else {
-        None
+    match name {
+        "port_deallocate" => Some(Verb::PortDeallocate),
+        "port_send" => Some(Verb::PortSend),
+        "port_receive" => Some(Verb::PortReceive),
+        "auth_makeauth" => Some(Verb::AuthMakeauth),
+        _ => None,
     }
 }
 
@@ -67,22 +61,15 @@ fn port_verb(name: &str) -> Option<Verb>
 fn io_verb(name: &str) -> Option<Verb>
     ensures { result ≡ io_verb name.now }
 {
-    if is(name, "io_read") {
-        Some(Verb::IoRead)
-    } else if is(name, "io_write") {
-        Some(Verb::IoWrite)
-    } else if is(name, "io_seek") {
-        Some(Verb::IoSeek)
-    } else if is(name, "io_stat") {
-        Some(Verb::IoStat)
-    } else if is(name, "io_readable") {
-        Some(Verb::IoReadable)
-    } else if is(name, "io_get_openmodes") {
-        Some(Verb::IoGetOpenmodes)
-    } else if is(name, "io_set_all_openmodes") {
-        Some(Verb::IoSetAllOpenmodes)
-    } else {
-        None
+    match name {
+        "io_read" => Some(Verb::IoRead),
+        "io_write" => Some(Verb::IoWrite),
+        "io_seek" => Some(Verb::IoSeek),
+        "io_stat" => Some(Verb::IoStat),
+        "io_readable" => Some(Verb::IoReadable),
+        "io_get_openmodes" => Some(Verb::IoGetOpenmodes),
+        "io_set_all_openmodes" => Some(Verb::IoSetAllOpenmodes),
+        _ => None,
     }
 }
 
@@ -90,16 +77,12 @@ fn io_verb(name: &str) -> Option<Verb>
 fn share_verb(name: &str) -> Option<Verb>
     ensures { result ≡ share_verb name.now }
 {
-    if is(name, "io_duplicate") {
-        Some(Verb::IoDuplicate)
-    } else if is(name, "io_reauthenticate") {
-        Some(Verb::IoReauthenticate)
-    } else if is(name, "io_restrict_auth") {
-        Some(Verb::IoRestrictAuth)
-    } else if is(name, "io_identity") {
-        Some(Verb::IoIdentity)
-    } else {
-        None
+    match name {
+        "io_duplicate" => Some(Verb::IoDuplicate),
+        "io_reauthenticate" => Some(Verb::IoReauthenticate),
+        "io_restrict_auth" => Some(Verb::IoRestrictAuth),
+        "io_identity" => Some(Verb::IoIdentity),
+        _ => None,
     }
 }
 
@@ -107,16 +90,12 @@ fn share_verb(name: &str) -> Option<Verb>
 fn file_verb(name: &str) -> Option<Verb>
     ensures { result ≡ file_verb name.now }
 {
-    if is(name, "file_chmod") {
-        Some(Verb::FileChmod)
-    } else if is(name, "file_chown") {
-        Some(Verb::FileChown)
-    } else if is(name, "file_set_size") {
-        Some(Verb::FileSetSize)
-    } else if is(name, "file_check_access") {
-        Some(Verb::FileCheckAccess)
-    } else {
-        None
+    match name {
+        "file_chmod" => Some(Verb::FileChmod),
+        "file_chown" => Some(Verb::FileChown),
+        "file_set_size" => Some(Verb::FileSetSize),
+        "file_check_access" => Some(Verb::FileCheckAccess),
+        _ => None,
     }
 }
 
@@ -124,16 +103,12 @@ fn file_verb(name: &str) -> Option<Verb>
 fn translator_verb(name: &str) -> Option<Verb>
     ensures { result ≡ translator_verb name.now }
 {
-    if is(name, "file_set_translator") {
-        Some(Verb::FileSetTranslator)
-    } else if is(name, "file_get_translator") {
-        Some(Verb::FileGetTranslator)
-    } else if is(name, "file_get_translator_cntl") {
-        Some(Verb::FileGetTranslatorCntl)
-    } else if is(name, "file_getcontrol") {
-        Some(Verb::FileGetcontrol)
-    } else {
-        None
+    match name {
+        "file_set_translator" => Some(Verb::FileSetTranslator),
+        "file_get_translator" => Some(Verb::FileGetTranslator),
+        "file_get_translator_cntl" => Some(Verb::FileGetTranslatorCntl),
+        "file_getcontrol" => Some(Verb::FileGetcontrol),
+        _ => None,
     }
 }
 
@@ -141,20 +116,14 @@ fn translator_verb(name: &str) -> Option<Verb>
 fn fsys_verb(name: &str) -> Option<Verb>
     ensures { result ≡ fsys_verb name.now }
 {
-    if is(name, "fsys_startup") {
-        Some(Verb::FsysStartup)
-    } else if is(name, "start_failed") {
-        Some(Verb::StartFailed)
-    } else if is(name, "fsys_getroot") {
-        Some(Verb::FsysGetroot)
-    } else if is(name, "fsys_goaway") {
-        Some(Verb::FsysGoaway)
-    } else if is(name, "fsys_get_options") {
-        Some(Verb::FsysGetOptions)
-    } else if is(name, "fsys_set_options") {
-        Some(Verb::FsysSetOptions)
-    } else {
-        None
+    match name {
+        "fsys_startup" => Some(Verb::FsysStartup),
+        "start_failed" => Some(Verb::StartFailed),
+        "fsys_getroot" => Some(Verb::FsysGetroot),
+        "fsys_goaway" => Some(Verb::FsysGoaway),
+        "fsys_get_options" => Some(Verb::FsysGetOptions),
+        "fsys_set_options" => Some(Verb::FsysSetOptions),
+        _ => None,
     }
 }
 
@@ -162,24 +131,16 @@ fn fsys_verb(name: &str) -> Option<Verb>
 fn dir_verb(name: &str) -> Option<Verb>
     ensures { result ≡ dir_verb name.now }
 {
-    if is(name, "dir_lookup") {
-        Some(Verb::DirLookup)
-    } else if is(name, "dir_readdir") {
-        Some(Verb::DirReaddir)
-    } else if is(name, "dir_mkdir") {
-        Some(Verb::DirMkdir)
-    } else if is(name, "dir_mkfile") {
-        Some(Verb::DirMkfile)
-    } else if is(name, "dir_rmdir") {
-        Some(Verb::DirRmdir)
-    } else if is(name, "dir_unlink") {
-        Some(Verb::DirUnlink)
-    } else if is(name, "dir_link") {
-        Some(Verb::DirLink)
-    } else if is(name, "dir_rename") {
-        Some(Verb::DirRename)
-    } else {
-        None
+    match name {
+        "dir_lookup" => Some(Verb::DirLookup),
+        "dir_readdir" => Some(Verb::DirReaddir),
+        "dir_mkdir" => Some(Verb::DirMkdir),
+        "dir_mkfile" => Some(Verb::DirMkfile),
+        "dir_rmdir" => Some(Verb::DirRmdir),
+        "dir_unlink" => Some(Verb::DirUnlink),
+        "dir_link" => Some(Verb::DirLink),
+        "dir_rename" => Some(Verb::DirRename),
+        _ => None,
     }
 }
 

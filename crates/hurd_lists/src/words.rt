@@ -62,9 +62,7 @@ fn unescaped(alloc: Global, word: &[u8]) -> Result<Bytes, ReadFault>
     }
     match escape {
         Escape::Plain => Ok(Bytes::new(bytes)),
-        Escape::Begun => Err(ReadFault::Bad),
-        Escape::Hex => Err(ReadFault::Bad),
-        Escape::Half(_) => Err(ReadFault::Bad),
+        _ => Err(ReadFault::Bad),
     }
 }
 

@@ -18,32 +18,11 @@ use Rattle.hurd_sample.proofs.WordLaws.{IsGoodPart, not_hidden, written_good, wr
 abbrev pub NoByte : ℕ → List ℕ → Type 0
 NoByte c w = All (λ b. nat_eq b c ≡ false) w
 
--- the words of users and of commands
-
-user_visible : (u : User) → has_hidden_byte (user_word u) ≡ false
-user_visible Root = refl
-user_visible Alice = refl
-user_visible Bob = refl
-user_visible Carol = refl
-
-user_text : (u : User) → text_of (user_word u) ≡ Some (user_word u)
-unfolding text_after
-user_text Root = refl
-user_text Alice = refl
-user_text Bob = refl
-user_text Carol = refl
-
-user_bytes : (u : User) → has_bytes (user_word u) ≡ true
-user_bytes Root = refl
-user_bytes Alice = refl
-user_bytes Bob = refl
-user_bytes Carol = refl
-
-unskipped : (u : User) (rest : List ℕ) → is_skipped (user_word u ++ rest) ≡ false
-unskipped Root rest = refl
-unskipped Alice rest = refl
-unskipped Bob rest = refl
-unskipped Carol rest = refl
+-- a word that spells itself
+record IsPlain (w : List ℕ) : Type 0 where
+  visible : has_hidden_byte w ≡ false
+  text : text_of w ≡ Some w
+  bytes : has_bytes w ≡ true
 
 -- those of a sample, root first
 abbrev pub sample_names : List (List ℕ)
@@ -53,63 +32,22 @@ sample_names = codes "root" ∷ codes "alice" ∷ codes "bob" ∷ codes "carol" 
 abbrev pub AreDeclared : List (List ℕ) → Type 0
 AreDeclared earlier = filter_map declared_name earlier ≡ codes "alice" ∷ codes "bob" ∷ codes "carol" ∷ []
 
-known : (u : User) → is_none (task_of sample_names (user_word u)) ≡ false
-known Root = refl
-known Alice = refl
-known Bob = refl
-known Carol = refl
+-- a user of a sample, whose line is neither skipped nor a user line
+record IsName (w : List ℕ) : Type 0 where
+  plain : IsPlain w
+  said : (rest : List ℕ) → is_skipped (w ++ rest) ≡ false
+  other : (words : List (List ℕ)) → begins_with (codes "user") (w ∷ words) ≡ false
+  known : is_none (task_of sample_names w) ≡ false
 
-no_user_line : (u : User) (words : List (List ℕ)) → begins_with (codes "user") (user_word u ∷ words) ≡ false
-no_user_line Root words = refl
-no_user_line Alice words = refl
-no_user_line Bob words = refl
-no_user_line Carol words = refl
-
-verb_visible : (v : Verb) → has_hidden_byte (verb_word v) ≡ false
-verb_visible Cat = refl
-verb_visible Ls = refl
-verb_visible Put = refl
-verb_visible Mkdir = refl
-verb_visible Rm = refl
-verb_visible Rmdir = refl
-verb_visible Ln = refl
-verb_visible Mv = refl
-verb_visible Chmod = refl
-verb_visible Chown = refl
-verb_visible Settrans = refl
-verb_visible Showtrans = refl
-verb_visible Fsysopts = refl
-
-verb_text : (v : Verb) → text_of (verb_word v) ≡ Some (verb_word v)
+name : (u : User) → IsName (user_word u)
 unfolding text_after
-verb_text Cat = refl
-verb_text Ls = refl
-verb_text Put = refl
-verb_text Mkdir = refl
-verb_text Rm = refl
-verb_text Rmdir = refl
-verb_text Ln = refl
-verb_text Mv = refl
-verb_text Chmod = refl
-verb_text Chown = refl
-verb_text Settrans = refl
-verb_text Showtrans = refl
-verb_text Fsysopts = refl
+name Root = record { plain = record { visible = refl; text = refl; bytes = refl }; said = λ _. refl; other = λ _. refl; known = refl }
+name _ = record { plain = record { visible = refl; text = refl; bytes = refl }; said = λ _. refl; other = λ _. refl; known = refl }
 
-verb_known : (v : Verb) → (has_bytes (verb_word v) ≡ true) × (verb_of (verb_word v) ≡ Some v)
-verb_known Cat = (refl, refl)
-verb_known Ls = (refl, refl)
-verb_known Put = (refl, refl)
-verb_known Mkdir = (refl, refl)
-verb_known Rm = (refl, refl)
-verb_known Rmdir = (refl, refl)
-verb_known Ln = (refl, refl)
-verb_known Mv = (refl, refl)
-verb_known Chmod = (refl, refl)
-verb_known Chown = (refl, refl)
-verb_known Settrans = (refl, refl)
-verb_known Showtrans = (refl, refl)
-verb_known Fsysopts = (refl, refl)
+verb : (v : Verb) → IsPlain (verb_word v) × (verb_of (verb_word v) ≡ Some v)
+unfolding text_after
+verb Cat = (record { visible = refl; text = refl; bytes = refl }, refl)
+verb _ = (record { visible = refl; text = refl; bytes = refl }, refl)
 
 -- a line of these words
 abbrev pub line_of : User → Verb → List (List ℕ) → List ℕ
@@ -124,8 +62,8 @@ cut x (w ∷ ws) h =
 
 line_cut : (u : User) (v : Verb) (ws : List (List ℕ)) → slice_split (λ b. nat_eq b 32) (line_of u v ws) ≡ user_word u ∷ verb_word v ∷ map written ws
 line_cut u v ws =
-    slice_split_at (λ b. nat_eq b 32) (user_word u) 32 (verb_word v ++ spaced ws) (not_hidden 32 refl (user_word u) (user_visible u)) refl
-    ∙ ap (λ (parts : List (List ℕ)). user_word u ∷ parts) (cut (verb_word v) ws (not_hidden 32 refl (verb_word v) (verb_visible v)))
+    slice_split_at (λ b. nat_eq b 32) (user_word u) 32 (verb_word v ++ spaced ws) (not_hidden 32 refl (user_word u) (name u).plain.visible) refl
+    ∙ ap (λ (parts : List (List ℕ)). user_word u ∷ parts) (cut (verb_word v) ws (not_hidden 32 refl (verb_word v) (verb v).0.visible))
 
 -- a command of a task that there is
 command_there : (task : Option ℕ) (v : Verb) (header : List ℕ) (words : List (List ℕ)) → is_none task ≡ false → is_none (command_from task (Some v) header words) ≡ false
@@ -146,7 +84,7 @@ kept_good [] = refl
 kept_good (w ∷ ws) = one_more (written w) (kept ws) (has_bytes (written w)) (written_word_good w) (kept_good ws)
 
 line_written : (u : User) (v : Verb) (ws : List (List ℕ)) → written_words (line_of u v ws) ≡ user_word u ∷ verb_word v ∷ kept ws
-line_written u v ws = ap (filter has_bytes) (line_cut u v ws) ∙ rw (user_bytes u, (verb_known v).0) refl
+line_written u v ws = ap (filter has_bytes) (line_cut u v ws) ∙ rw ((name u).plain.bytes, (verb v).0.bytes) refl
 
 text_is_good : (w : List ℕ) → has_hidden_byte w ≡ false → text_of w ≡ Some w → is_bad_word text_of w ≡ false
 text_is_good w h t = rw (h, t) refl
@@ -154,19 +92,19 @@ text_is_good w h t = rw (h, t) refl
 line_words_good : (u : User) (v : Verb) (ws : List (List ℕ)) → list_any (is_bad_word text_of) (written_words (line_of u v ws)) ≡ false
 line_words_good u v ws =
     ap (list_any (is_bad_word text_of)) (line_written u v ws)
-    ∙ rw (text_is_good (user_word u) (user_visible u) (user_text u), text_is_good (verb_word v) (verb_visible v) (verb_text v), kept_good ws) refl
+    ∙ rw (text_is_good (user_word u) (name u).plain.visible (name u).plain.text, text_is_good (verb_word v) (verb v).0.visible (verb v).0.text, kept_good ws) refl
 
 line_words : (u : User) (v : Verb) (ws : List (List ℕ)) → words_of (line_of u v ws) ≡ user_word u ∷ verb_word v ∷ filter_map text_of (kept ws)
-line_words u v ws = ap (filter_map text_of) (line_written u v ws) ∙ rw (user_text u, verb_text v) refl
+line_words u v ws = ap (filter_map text_of) (line_written u v ws) ∙ rw ((name u).plain.text, (verb v).0.text) refl
 
 -- behind the users of a sample a line is good, and declares nobody
 pub line_good : (earlier : List (List ℕ)) (u : User) (v : Verb) (ws : List (List ℕ)) → AreDeclared earlier → is_bad_line earlier (line_of u v ws) ≡ false
 line_good earlier u v ws names =
-    rw (unskipped u (32 ∷ (verb_word v ++ spaced ws)), line_words_good u v ws, line_words u v ws, no_user_line u (verb_word v ∷ filter_map text_of (kept ws)), names, known u, (verb_known v).1) refl
+    rw ((name u).said (32 ∷ (verb_word v ++ spaced ws)), line_words_good u v ws, line_words u v ws, (name u).other (verb_word v ∷ filter_map text_of (kept ws)), names, (name u).known, (verb v).1) refl
 
 pub line_declares : (u : User) (v : Verb) (ws : List (List ℕ)) → declared_name (line_of u v ws) ≡ None
 line_declares u v ws =
-    rw (unskipped u (32 ∷ (verb_word v ++ spaced ws)), line_words u v ws, no_user_line u (verb_word v ∷ filter_map text_of (kept ws))) refl
+    rw ((name u).said (32 ∷ (verb_word v ++ spaced ws)), line_words u v ws, (name u).other (verb_word v ∷ filter_map text_of (kept ws))) refl
 
 pub names_stay : (earlier : List (List ℕ)) (u : User) (v : Verb) (ws : List (List ℕ)) → AreDeclared earlier
     → AreDeclared (earlier ++ line_of u v ws ∷ [])
@@ -177,8 +115,8 @@ names_stay earlier u v ws names =
 pub line_command : (u : User) (v : Verb) (ws : List (List ℕ)) (earlier : List (List ℕ)) → AreDeclared earlier
     → is_none (command_at (record { earlier = earlier; line = line_of u v ws })) ≡ false
 line_command u v ws earlier names =
-    rw (unskipped u (32 ∷ (verb_word v ++ spaced ws)), line_words u v ws, no_user_line u (verb_word v ∷ filter_map text_of (kept ws)), names, (verb_known v).1)
-    (command_there (task_of sample_names (user_word u)) v _ _ (known u))
+    rw ((name u).said (32 ∷ (verb_word v ++ spaced ws)), line_words u v ws, (name u).other (verb_word v ∷ filter_map text_of (kept ws)), names, (verb v).1)
+    (command_there (task_of sample_names (user_word u)) v _ _ (name u).known)
 
 -- no newline stands in a line
 spaced_whole : (ws : List (List ℕ)) → NoByte 10 (spaced ws)
@@ -189,6 +127,6 @@ spaced_whole (w ∷ ws) =
 
 pub line_whole : (u : User) (v : Verb) (ws : List (List ℕ)) → NoByte 10 (line_of u v ws)
 line_whole u v ws =
-    All-append (λ b. nat_eq b 10 ≡ false) (user_word u) (32 ∷ (verb_word v ++ spaced ws)) (not_hidden 10 refl (user_word u) (user_visible u))
+    All-append (λ b. nat_eq b 10 ≡ false) (user_word u) (32 ∷ (verb_word v ++ spaced ws)) (not_hidden 10 refl (user_word u) (name u).plain.visible)
     (All-cons (λ b. nat_eq b 10 ≡ false) 32 (verb_word v ++ spaced ws) refl
-    (All-append (λ b. nat_eq b 10 ≡ false) (verb_word v) (spaced ws) (not_hidden 10 refl (verb_word v) (verb_visible v)) (spaced_whole ws)))
+    (All-append (λ b. nat_eq b 10 ≡ false) (verb_word v) (spaced ws) (not_hidden 10 refl (verb_word v) (verb v).0.visible) (spaced_whole ws)))

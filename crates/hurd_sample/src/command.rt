@@ -115,16 +115,12 @@ fn push_word(text: &mut Vec<u8>, word: &[u8]) -> Result<(), AllocError>
 fn push_byte(text: &mut Vec<u8>, byte: u8) -> Result<(), AllocError>
     ensures { OnOk result (text.new.items ≡ text.old.items ++ written_byte byte) }
 {
-    if byte == b' ' {
-        text.extend_from_slice(b"\\s")?;
-    } else if byte == b'\n' {
-        text.extend_from_slice(b"\\n")?;
-    } else if byte == b'\\' {
-        text.extend_from_slice(b"\\\\")?;
-    } else if byte >= 33 && byte <= 126 {
-        text.push(byte)?;
-    } else {
-        text.push(b'?')?;
+    match byte {
+        b' ' => text.extend_from_slice(b"\\s")?,
+        b'\n' => text.extend_from_slice(b"\\n")?,
+        b'\\' => text.extend_from_slice(b"\\\\")?,
+        33..=126 => text.push(byte)?,
+        _ => text.push(b'?')?,
     }
     Ok(())
 }

@@ -221,7 +221,7 @@ impl Scene {
             "hello", "hello", "null", "zero", "tmpfs", "tmpfs", "symlink", "symlink", "firmlink",
             "union", "drip", "fifo", "magic",
         ]);
-        words.push(joined(alloc, "/hurd/", kind)?)?;
+        words.push(format!(in alloc; "/hurd/{kind}")?)?;
         match kind {
             "hello" => self.push_contents(alloc, words),
             "tmpfs" => self.push_size(alloc, words),
@@ -244,7 +244,7 @@ impl Scene {
     fn push_contents(&mut self, alloc: Global, words: &mut Vec<String>) -> Result<(), AllocError> {
         if self.draws.often(60) {
             let text = self.text();
-            words.push(joined(alloc, "--contents=", text)?)?;
+            words.push(format!(in alloc; "--contents={text}")?)?;
         }
         Ok(())
     }
@@ -253,20 +253,18 @@ impl Scene {
     fn push_size(&mut self, alloc: Global, words: &mut Vec<String>) -> Result<(), AllocError> {
         if self.draws.often(60) {
             let size = self.size();
-            words.push(joined(alloc, "--size=", size)?)?;
+            words.push(format!(in alloc; "--size={size}")?)?;
         }
         Ok(())
     }
 
     fn push_old(&mut self, alloc: Global, words: &mut Vec<String>) -> Result<(), AllocError> {
-        let path = self.old(alloc)?;
-        words.push(path)?;
+        words.push(self.old(alloc)?)?;
         Ok(())
     }
 
     fn push_directory(&mut self, alloc: Global, words: &mut Vec<String>) -> Result<(), AllocError> {
-        let path = self.directory(alloc)?;
-        words.push(path)?;
+        words.push(self.directory(alloc)?)?;
         Ok(())
     }
 
@@ -347,7 +345,7 @@ impl Scene {
     {
         let path = self.directory(alloc)?;
         let name = self.draws.one(names);
-        below(alloc, path.as_str(), name)
+        format!(in alloc; "{path}/{name}")
     }
 
     /// A path that some command may have made, or one at a port of the task's own below it, as a magical link has them.
@@ -355,7 +353,7 @@ impl Scene {
         let path = self.made_before(alloc)?;
         if self.draws.often(4) {
             let port = self.draws.one(&["1", "2", "3"]);
-            return below(alloc, path.as_str(), port);
+            return format!(in alloc; "{path}/{port}");
         }
         Ok(path)
     }
@@ -375,7 +373,7 @@ impl Scene {
         }
         let place = self.place();
         let name = self.draws.one(&["a", "b", "c", "d", "e", "f"]);
-        below(alloc, place, name)
+        format!(in alloc; "{place}/{name}")
     }
 
     /// Whether a path is one that the user would rather name.
@@ -421,21 +419,6 @@ impl Scene {
 /// Whether a path has a directory's name.
 fn is_directory(path: &str) -> bool {
     path.ends_with("d") || path.ends_with("e") || path.ends_with("f")
-}
-
-/// A text behind another.
-fn joined(alloc: Global, front: &str, rest: &str) -> Result<String, AllocError> {
-    let mut text = String::from_str(alloc, front)?;
-    text.push_str(rest)?;
-    Ok(text)
-}
-
-/// A name in a directory.
-fn below(alloc: Global, directory: &str, name: &str) -> Result<String, AllocError> {
-    let mut path = String::from_str(alloc, directory)?;
-    path.push_str("/")?;
-    path.push_str(name)?;
-    Ok(path)
 }
 
 /// One word more.

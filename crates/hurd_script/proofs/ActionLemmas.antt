@@ -16,13 +16,9 @@ use Rattle.hurd_script.proofs.SettingLemmas.{not_some}
 
 asked_chown : (flags operands : List Text)
     → asked Chown flags operands ≡ option_map_or (λ t. chown_action (number_of t.0) (number_of t.1.0) t.1.1) (three flags operands) action.Usage
-asked_chown [] [] = refl
-asked_chown [] (x ∷ []) = refl
-asked_chown [] (x ∷ y ∷ []) = refl
 asked_chown [] (x ∷ y ∷ z ∷ []) = refl
-asked_chown [] (x ∷ y ∷ z ∷ w ∷ operands) = refl
 asked_chown (f ∷ []) operands = refl
-asked_chown (f ∷ g ∷ flags) operands = refl
+asked_chown _ _ = refl
 
 pub chown_read : (ws : List Text) (owner group node : Text) (o g : Option ℕ) → Some (owner, (group, node)) ≡ three (flags_of ws) (operands_of ws)
     → o ≡ number_of owner → g ≡ number_of group → chown_action o g node ≡ asked_by Chown ws

@@ -36,9 +36,8 @@ ListAnswer name ws = Answer (list_app name) ws HasListed (listed (flags_of ws) (
 
 -- no node, and two nodes or more
 many_nodes : (flags : List Text) (w v : Text) (operands : List Text) → listed flags (w ∷ v ∷ operands) ≡ None
-many_nodes [] w v operands = refl
 many_nodes (f ∷ []) w v operands = refl
-many_nodes (f ∷ g ∷ flags) w v operands = refl
+many_nodes _ w v operands = refl
 
 list_read : (name : Text) (ws : List Text) → AreListed ws → ListAnswer name ws
 unfolding clap_on_literals

@@ -58,10 +58,8 @@ with_nothing s = rw (append-nil s.names, append-nil s.users, append-nil s.comman
 -- a user line
 user_cases : (s : Standing) (name : List ℕ) (begun room : Bool) (ids : Option IdSets)
     → (if begun || not room then None else with_user s name ids) ≡ (if begun || not (room && is_some ids) then None else Some (with_parts s (Some name) ids None false))
-user_cases s name true room ids = refl
-user_cases s name false false ids = refl
-user_cases s name false true None = refl
 user_cases s name false true (Some i) = rw (append-nil s.commands, or-false s.begun) refl
+user_cases s name _ _ _ = refl
 
 with_declared-is : (s : Standing) (d : Option Declaration)
     → with_declared s d ≡ (if s.begun || not (may_declare_some s.names d) then None
@@ -72,9 +70,8 @@ with_declared-is s (Some user) = user_cases s user.name s.begun (has_room_for s.
 -- a command line
 command_cases : (task : Option ℕ) (verb : Option Verb) (header : List ℕ) (words : List (List ℕ))
     → (is_none task || (false || is_none verb)) ≡ is_none (command_from task verb header words)
-command_cases None verb header words = refl
-command_cases (Some t) None header words = refl
 command_cases (Some t) (Some v) header words = refl
+command_cases _ _ header words = refl
 
 command-is : (names : List (List ℕ)) (line : List ℕ) (words : List (List ℕ)) → is_bad_command names words ≡ is_none (command_of names line words)
 command-is names line [] = refl

@@ -67,36 +67,25 @@ unread app wanted ws Has (Some x) e a f = absurd (f (ap (λ (y : App). fault_of 
 
 -- words of another number are none of these
 pub lone_only : (ws : List Text) → length ws ≢ 1 → None ≡ lone [] ws
-lone_only [] h = refl
 lone_only (x ∷ []) h = absurd (h refl)
-lone_only (x ∷ y ∷ ws) h = refl
+lone_only _ h = refl
 
 pub both_only : (ws : List Text) → length ws ≢ 2 → None ≡ both [] ws
-both_only [] h = refl
-both_only (x ∷ []) h = refl
 both_only (x ∷ y ∷ []) h = absurd (h refl)
-both_only (x ∷ y ∷ z ∷ ws) h = refl
+both_only _ h = refl
 
 pub three_only : (ws : List Text) → length ws ≢ 3 → None ≡ three [] ws
-three_only [] h = refl
-three_only (x ∷ []) h = refl
-three_only (x ∷ y ∷ []) h = refl
 three_only (x ∷ y ∷ z ∷ []) h = absurd (h refl)
-three_only (x ∷ y ∷ z ∷ w ∷ ws) h = refl
+three_only _ h = refl
 
 -- three words, each of them
 pub three_said : {X : Type 0} (text : X → Text) (xs : List X) (x y z : X) {a b c : Text} → length xs ≡ 3
     → x ≡ get_or xs 0 x → y ≡ get_or xs 1 y → z ≡ get_or xs 2 z → a ≡ text x → b ≡ text y → c ≡ text z
     → Some (a, (b, c)) ≡ three [] (map text xs)
 three_said text (u ∷ v ∷ w ∷ []) x y z n f s t a b c = rw (a, b, c, f, s, t) refl
-three_said text [] x y z n f s t a b c = absurd (cc)
-three_said text (u ∷ []) x y z n f s t a b c = absurd (cc)
-three_said text (u ∷ v ∷ []) x y z n f s t a b c = absurd (cc)
-three_said text (u ∷ v ∷ w ∷ o ∷ xs) x y z n f s t a b c = absurd (cc)
+three_said text _ x y z n f s t a b c = absurd (cc)
 
 -- a node alone is listed without the flag
 pub listed_alone : (flags operands : List Text) (node : Text) → Some node ≡ lone flags operands → Some (node, false) ≡ listed flags operands
-listed_alone [] [] node h = absurd (cc)
 listed_alone [] (x ∷ []) node h = ap (option_map (λ n. (n, false))) h
-listed_alone [] (x ∷ y ∷ operands) node h = absurd (cc)
-listed_alone (f ∷ flags) operands node h = absurd (cc)
+listed_alone _ _ node h = absurd (cc)

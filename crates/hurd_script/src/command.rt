@@ -8,7 +8,6 @@ use crate::places::Place;
 use crate::settrans::SettransFlags;
 use hurd_creds::{Bytes, Mode, TaskId};
 use hurd_trans_iface::Words;
-use hurd_words::words::is;
 use std::alloc::{AllocError, Global};
 use std::marker::Model;
 
@@ -209,33 +208,20 @@ pub fn same_texts(some: &[String], others: &[String]) -> bool
 pub fn verb_of(word: &str) -> Option<Verb>
     ensures { result ≡ verb_of word.now }
 {
-    if is(word, "cat") {
-        Some(Verb::Cat)
-    } else if is(word, "ls") {
-        Some(Verb::Ls)
-    } else if is(word, "put") {
-        Some(Verb::Put)
-    } else if is(word, "mkdir") {
-        Some(Verb::Mkdir)
-    } else if is(word, "rm") {
-        Some(Verb::Rm)
-    } else if is(word, "rmdir") {
-        Some(Verb::Rmdir)
-    } else if is(word, "ln") {
-        Some(Verb::Ln)
-    } else if is(word, "mv") {
-        Some(Verb::Mv)
-    } else if is(word, "chmod") {
-        Some(Verb::Chmod)
-    } else if is(word, "chown") {
-        Some(Verb::Chown)
-    } else if is(word, "settrans") {
-        Some(Verb::Settrans)
-    } else if is(word, "showtrans") {
-        Some(Verb::Showtrans)
-    } else if is(word, "fsysopts") {
-        Some(Verb::Fsysopts)
-    } else {
-        None
+    match word {
+        "cat" => Some(Verb::Cat),
+        "ls" => Some(Verb::Ls),
+        "put" => Some(Verb::Put),
+        "mkdir" => Some(Verb::Mkdir),
+        "rm" => Some(Verb::Rm),
+        "rmdir" => Some(Verb::Rmdir),
+        "ln" => Some(Verb::Ln),
+        "mv" => Some(Verb::Mv),
+        "chmod" => Some(Verb::Chmod),
+        "chown" => Some(Verb::Chown),
+        "settrans" => Some(Verb::Settrans),
+        "showtrans" => Some(Verb::Showtrans),
+        "fsysopts" => Some(Verb::Fsysopts),
+        _ => None,
     }
 }

@@ -5,7 +5,7 @@ use Rattle.hurd_words.proofs.Loops.{is_err}
 use Rattle.hurd_words.proofs.WordLemmas.{byte_read, byte_refused, hidden_word, word_begun, word_open, word_whole}
 use Rattle.hurd_lists.specs.Words.{bytes_after, bytes_of}
 use Rattle.hurd_lists.specs.declared.words.Escape.TheVariants.{Plain}
-use Rattle.hurd_lists.proofs.WordLemmas.{ends_plain, open_begun, open_half, open_hex}
+use Rattle.hurd_lists.proofs.WordLemmas.{ends_plain, left_open}
 use Rattle.hurd_lists.proofs.words.unescaped.Goals as goal
 
 pub returns-then-has_hidden_byte : goal.returns-then-has_hidden_byte
@@ -30,14 +30,6 @@ pub returns-in-Plain : goal.returns-in-Plain
 returns-in-Plain c =
     word_whole bytes_after _ _ _ _ _ ends_plain (sym c.has_hidden_byte.ensures ∙ c.if-has_hidden_byte.false) c.loop-byte-test.false (rw c.in-Plain.is at c.loop-byte.invariant) ∙ ap Some (sym c.new.ensures)
 
-pub returns-in-Begun : goal.returns-in-Begun
-returns-in-Begun c =
-    word_open bytes_after _ _ _ _ _ open_begun (sym c.has_hidden_byte.ensures ∙ c.if-has_hidden_byte.false) c.loop-byte-test.false (rw c.in-Begun.is at c.loop-byte.invariant)
-
-pub returns-in-Hex : goal.returns-in-Hex
-returns-in-Hex c =
-    word_open bytes_after _ _ _ _ _ open_hex (sym c.has_hidden_byte.ensures ∙ c.if-has_hidden_byte.false) c.loop-byte-test.false (rw c.in-Hex.is at c.loop-byte.invariant)
-
-pub returns-in-Half : goal.returns-in-Half
-returns-in-Half c =
-    word_open bytes_after _ _ _ _ _ (open_half _) (sym c.has_hidden_byte.ensures ∙ c.if-has_hidden_byte.false) c.loop-byte-test.false (rw c.in-Half.is at c.loop-byte.invariant)
+pub returns-in_default : goal.returns-in_default
+returns-in_default c =
+    word_open bytes_after _ _ _ _ _ (left_open _ c.in_default.not-Plain) (sym c.has_hidden_byte.ensures ∙ c.if-has_hidden_byte.false) c.loop-byte-test.false c.loop-byte.invariant
