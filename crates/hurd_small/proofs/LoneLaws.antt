@@ -25,6 +25,7 @@ use Rattle.hurd_trans_iface.proofs.NodeSteps.{step-node, told-here}
 use Rattle.hurd_small.specs.declared.presence.LoneNode.{LoneNode}
 use Rattle.hurd_small.specs.declared.presence.Presence.{Presence}
 use Rattle.hurd_small.specs.declared.presence.Presence.TheVariants.{Nameless, There, Forgotten}
+use Rattle.hurd_small.specs.Calls.{Does}
 use Rattle.hurd_small.specs.Lone.{body_with, node_of, nodes_of, root_name, lone_meaning, barred_by, text_taken}
 
 -- maps of one value, and of none
@@ -59,13 +60,10 @@ module _ {X : Type 0} (n : Name) where
 abbrev no_nodes : NodeMap
 no_nodes = fin.empty
 
-pub find-none : (n : Name) → None ≡ fin.get no_nodes n
-find-none n = sym (fin.get-empty {X = Node} name_cmp n)
-
 -- where no tree is kept there is no limit
 
-pub space-none : (m : Meaning) → keeps_tree m.kind ≡ false → space_of m ≡ None
-space-none m no_tree = ap (λ (most : Option ℕ). space_with most (total_in m.nodes)) ((good m.kind).unlimited no_tree m.text)
+pub space_none : (m : Meaning) → keeps_tree m.kind ≡ false → space_of m ≡ None
+space_none m no_tree = ap (λ (most : Option ℕ). space_with most (total_in m.nodes)) ((good m.kind).unlimited no_tree m.text)
 
 -- where no tree is kept no entry goes
 
@@ -92,13 +90,19 @@ module _ (kind : ServerKind) (text : List ℕ) (held : List ℕ) where
 
   -- the node is found under its name, and under no other
 
-  pub find-there : (p : Presence) (r : LoneNode) (n : Name) → p ≡ There r → same_name r.name n ≡ true → Some (node_of kind text held r) ≡ at p n
-  find-there p r n is same =
+  pub find_there : (p : Presence) (r : LoneNode) (n : Name) → p ≡ There r → same_name r.name n ≡ true → Some (node_of kind text held r) ≡ at p n
+  find_there p r n is same =
       let e : r.name ≡ n = equal_if_same r.name n same in
       rw (is, ← e) (sym (get-one r.name (node_of kind text held r)))
 
-  pub find-apart : (p : Presence) (r : LoneNode) (n : Name) → p ≡ There r → same_name r.name n ≡ false → None ≡ at p n
-  find-apart p r n is other = rw is (sym (get-other r.name (node_of kind text held r) n (λ e. apart_if_not_same r.name n other (sym e))))
+  pub find_apart : (p : Presence) (r : LoneNode) (n : Name) → p ≡ There r → same_name r.name n ≡ false → None ≡ at p n
+  find_apart p r n is other = rw is (sym (get-other r.name (node_of kind text held r) n (λ e. apart_if_not_same r.name n other (sym e))))
+
+  pub find_nameless : (p : Presence) (n : Name) → p ≡ Nameless → None ≡ at p n
+  find_nameless p n is = rw is (sym (fin.get-empty {X = Node} name_cmp n))
+
+  pub find-forgotten : (p : Presence) (n name : Name) → p ≡ Forgotten name → None ≡ at p n
+  find-forgotten p n name is = rw is (sym (fin.get-empty {X = Node} name_cmp n))
 
   -- whatever is found is the node
 
@@ -118,27 +122,27 @@ module _ (kind : ServerKind) (text : List ℕ) (held : List ℕ) where
   entered plain o (inr (r, is)) = rw (is, plain) refl
 
   -- a node that is no directory has a link, so no node is without an entry
-  pub all-entered : is_dir (root_of kind text).kind ≡ false → (p : Presence) → AllListed (nodes_of kind text held p) []
-  all-entered plain p n nameless = absurd (true≢false (sym (entered plain (at p n) (found p n)) ∙ nameless))
+  pub all_entered : is_dir (root_of kind text).kind ≡ false → (p : Presence) → AllListed (nodes_of kind text held p) []
+  all_entered plain p n nameless = absurd (true≢false (sym (entered plain (at p n) (found p n)) ∙ nameless))
 
   -- no words are stored with it
-  pub passive-none : (p : Presence) (n : Name) → None ≡ passive_of (at p n)
-  passive-none p n = elim (found p n) [
+  pub passive_none : (p : Presence) (n : Name) → None ≡ passive_of (at p n)
+  passive_none p n = elim (found p n) [
     | inl none ↦ rw none refl
     | inr there ↦ rw there.1 refl
   ]
 
   -- it has no entries
-  pub step-none : (p : Presence) (n : Name) (name : List ℕ) → None ≡ entry_of name (body_of (nodes_of kind text held p) n)
-  step-none p n name = elim (found p n) [
+  pub step_none : (p : Presence) (n : Name) (name : List ℕ) → None ≡ entry_of name (body_of (nodes_of kind text held p) n)
+  step_none p n name = elim (found p n) [
     | inl none ↦ rw none refl
     | inr there ↦ rw there.1 (no_entry name (is_dir (root_of kind text).kind) held)
   ]
 
   -- where no tree is kept
-  pub unlink-barred : (p : Presence) (n : Name) → keeps_tree kind ≡ false → (e : Errno) → e ≡ barred_by (at p n) → (name : List ℕ)
+  pub unlink_barred : (p : Presence) (n : Name) → keeps_tree kind ≡ false → (e : Errno) → e ≡ barred_by (at p n) → (name : List ℕ)
       → (let m = lone_meaning kind text held p in (Err e, m) ≡ unlink_step n name m)
-  unlink-barred p n no_tree e is name = rw (is, unlink-plain (keeps_tree kind) no_tree name (at p n)) refl
+  unlink_barred p n no_tree e is name = rw (is, unlink-plain (keeps_tree kind) no_tree name (at p n)) refl
 
   -- the node goes when it is forgotten, and not when another one is
 
@@ -153,16 +157,16 @@ module _ (kind : ServerKind) (text : List ℕ) (held : List ℕ) where
   none_if_none None none = refl
   none_if_none (Some r) none = absurd (cc)
 
-  pub forget-there : (p : Presence) (n : Name) (o : Option LoneNode) → Finds p n o → is_some o ≡ true → lone_meaning kind text held (Forgotten n) ≡ forget_after (lone_meaning kind text held p) n
-  forget-there Nameless n o finds some = absurd (some_is_none o some (finds ∙ fin.get-empty {X = Node} name_cmp n))
-  forget-there (Forgotten name) n o finds some = absurd (some_is_none o some (finds ∙ fin.get-empty {X = Node} name_cmp n))
-  forget-there (There r) n o finds some = elim (same_or_apart n r.name) [
+  pub forget_there : (p : Presence) (n : Name) (o : Option LoneNode) → Finds p n o → is_some o ≡ true → lone_meaning kind text held (Forgotten n) ≡ forget_after (lone_meaning kind text held p) n
+  forget_there Nameless n o finds some = absurd (some_is_none o some (finds ∙ fin.get-empty {X = Node} name_cmp n))
+  forget_there (Forgotten name) n o finds some = absurd (some_is_none o some (finds ∙ fin.get-empty {X = Node} name_cmp n))
+  forget_there (There r) n o finds some = elim (same_or_apart n r.name) [
     | inl e ↦ rw (e, remove-one r.name (node_of kind text held r)) refl
     | inr apart ↦ absurd (some_is_none o some (finds ∙ get-other r.name (node_of kind text held r) n apart))
   ]
 
-  pub forget-absent : (p : Presence) (n : Name) (o : Option LoneNode) → Finds p n o → is_some o ≡ false → lone_meaning kind text held p ≡ forget_after (lone_meaning kind text held p) n
-  forget-absent p n o finds none =
+  pub forget_absent : (p : Presence) (n : Name) (o : Option LoneNode) → Finds p n o → is_some o ≡ false → lone_meaning kind text held p ≡ forget_after (lone_meaning kind text held p) n
+  forget_absent p n o finds none =
       rw (remove-absent n (nodes_of kind text held p) (sym finds ∙ none_if_none o none)) refl
 
 -- options that are taken
@@ -209,27 +213,27 @@ module _ (kind : ServerKind) (n : LoneNode) where
   node-begun : (text : List ℕ) → node_of kind text ((behaviour_of kind).first text) n ≡ new_root (behaviour_of kind) text n.owner n.group n.mode
   node-begun text = refl
 
-  pub root-begun : (p : Presence) (text : List ℕ) (held : List ℕ) (text' : List ℕ) (held' : List ℕ) → root_name p ≡ None → text' ≡ text → held' ≡ (behaviour_of kind).first text
+  pub root_begun : (p : Presence) (text : List ℕ) (held : List ℕ) (text' : List ℕ) (held' : List ℕ) → root_name p ≡ None → text' ≡ text → held' ≡ (behaviour_of kind).first text
       → lone_meaning kind text' held' (There n) ≡ begin_root_after (lone_meaning kind text held p) n.name n.owner n.group n.mode
-  root-begun Nameless text held text' held' none same empty =
+  root_begun Nameless text held text' held' none same empty =
       rw (same, empty)
       (ap (λ (x : Node). let m : Meaning = record { kind = kind; text = text; root = Some n.name; nodes = fin.insert no_nodes n.name x } in m) (node-begun text))
-  root-begun (There r) text held text' held' none same empty = absurd (cc)
-  root-begun (Forgotten name) text held text' held' none same empty = absurd (cc)
+  root_begun (There r) text held text' held' none same empty = absurd (cc)
+  root_begun (Forgotten name) text held text' held' none same empty = absurd (cc)
 
 -- a call that takes no memory does what it is to, or refuses and changes nothing
-pub steps-told : {T : Type 0} (e : Effect T) (x y : Node) (got : Result T Errno) → (got, y) ≡ served e x → Steps x (served e x) got y
+steps-told : {T : Type 0} (e : Effect T) (x y : Node) (got : Result T Errno) → (got, y) ≡ served e x → Steps x (served e x) got y
 steps-told (Ok d) x y got is = rw (ap (λ s. s.0) is, ap (λ s. s.1) is) (record { answered = refl; left = refl })
 steps-told (Err f) x y got is = rw (ap (λ s. s.0) is, ap (λ s. s.1) is) (steps-refused (served (Err f) x) x f refl)
 
 -- what is done to what is kept of the node
 
-module _ (kind : ServerKind) (text : List ℕ) (held : List ℕ) (p : Presence) (r : LoneNode) (n : Name) (is : p ≡ There r) (name : r.name ≡ n) (no_tree : keeps_tree kind ≡ false) where
+module _ (kind : ServerKind) (text : List ℕ) (held : List ℕ) (p : Presence) (r : LoneNode) (n : Name) (there : (p ≡ There r) × (r.name ≡ n)) (no_tree : keeps_tree kind ≡ false) where
   pub at-there : fin.get (nodes_of kind text held p) n ≡ Some (node_of kind text held r)
-  at-there = rw (is, ← name) (get-one r.name (node_of kind text held r))
+  at-there = rw (there.0, ← there.1) (get-one r.name (node_of kind text held r))
 
   nodes-kept : (new : List ℕ) → nodes_of kind text new p ≡ fin.insert (nodes_of kind text held p) n (node_of kind text new r)
-  nodes-kept new = rw (is, ← name) (sym (insert-insert no_nodes r.name (node_of kind text held r) (node_of kind text new r)))
+  nodes-kept new = rw (there.0, ← there.1) (sym (insert-insert no_nodes r.name (node_of kind text held r) (node_of kind text new r)))
 
   abbrev meaning : Meaning
   meaning = lone_meaning kind text held p
@@ -240,7 +244,7 @@ module _ (kind : ServerKind) (text : List ℕ) (held : List ℕ) (p : Presence) 
 
     -- there is no limit by which it is refused
     effect-fits : effect ≡ fitting (space_of meaning) (node_of kind text held r).header effect
-    effect-fits = sym (ap (λ (space : Option ℕ). fitting space (node_of kind text held r).header effect) (space-none meaning no_tree))
+    effect-fits = sym (ap (λ (space : Option ℕ). fitting space (node_of kind text held r).header effect) (space_none meaning no_tree))
 
     pub told-kept : told_of effect ≡ (step_of q n meaning).0
     told-kept = told-here meaning n (node_of kind text held r) at-there q (told_of effect) (ap told_of effect-fits)
@@ -252,6 +256,11 @@ module _ (kind : ServerKind) (text : List ℕ) (held : List ℕ) (p : Presence) 
         (λ steps. step-node meaning n (node_of kind text held r) at-there q got (node_of kind text new r) (nodes_of kind text new p)
         (subst (λ (e : Effect T). Steps (node_of kind text held r) (served e (node_of kind text held r)) got (node_of kind text new r)) effect-fits steps) (nodes-kept new))
 
+    -- so it is by a call that takes no memory, and one answers as its keeper does
+    pub done-kept : (same_text : List ℕ) (new : List ℕ) → same_text ≡ text → Does q kind text held got same_text new → Steps meaning (step_of q n meaning) got (lone_meaning kind same_text new p) × (got ≡ (step_of q n meaning).0)
+    unfolding Does
+    done-kept same_text new same does = (step-kept same_text new same (steps-told effect (node_of kind text held r) (node_of kind same_text new r) got (does r)), ap (λ s. s.0) (does r) ∙ told-kept)
+
   -- nothing that the node's header says is edited
-  pub header-barred : (e : HeaderEdit) → (Err EOPNOTSUPP, meaning) ≡ edit_header_step n e meaning
-  header-barred e = rw (at-there, no_tree) refl
+  pub header_barred : (e : HeaderEdit) → (Err EOPNOTSUPP, meaning) ≡ edit_header_step n e meaning
+  header_barred e = rw (at-there, no_tree) refl

@@ -41,6 +41,7 @@ impl<K: Keeper> Lone<K> {
 impl<K: Keeper> Server for Lone<K> {
     ghost meaning = { λ s. lone_meaning (K.kind s.keeper) (K.text s.keeper) (K.held s.keeper) s.presence };
 
+    #[tactic(auto, using(crate::proofs::LoneLaws::root_begun))]
     fn begin_root(&mut self, root: NodeName, owner: u32, group: u32, mode: Mode) {
         self.keeper.begin();
         self.presence = Presence::There(LoneNode {
@@ -87,6 +88,7 @@ impl<K: Keeper> Server for Lone<K> {
         })
     }
 
+    #[tactic(auto, using(crate::proofs::LoneLaws::step_none))]
     fn step(&self, _dir: NodeName, _name: &[u8]) -> Option<NodeName> {
         None
     }
@@ -168,6 +170,7 @@ impl<K: Keeper> Server for Lone<K> {
         Err(Errno::EROFS)
     }
 
+    #[tactic(auto, using(crate::proofs::LoneLaws::unlink_barred))]
     fn unlink(&mut self, dir: NodeName, _name: &[u8]) -> Result<(), Errno> {
         Err(self.bars(dir))
     }
@@ -183,10 +186,12 @@ impl<K: Keeper> Server for Lone<K> {
         Err(Errno::EROFS)
     }
 
+    #[tactic(auto, using(crate::proofs::LoneLaws::passive_none))]
     fn passive(&self, _node: NodeName) -> Option<&Words> {
         None
     }
 
+    #[tactic(auto, using(crate::proofs::LoneLaws::header_barred))]
     fn edit_header(&mut self, node: NodeName, _edit: HeaderEdit) -> Result<(), Errno> {
         match self.presence.find(node) {
             Some(_) => Err(Errno::EOPNOTSUPP),
@@ -194,12 +199,14 @@ impl<K: Keeper> Server for Lone<K> {
         }
     }
 
+    #[tactic(auto, using(crate::proofs::LoneLaws::forget_there, crate::proofs::LoneLaws::forget_absent))]
     fn forget(&mut self, node: NodeName) {
         if self.presence.find(node).is_some() {
             self.presence = Presence::Forgotten(node);
         }
     }
 
+    #[tactic(auto, using(crate::proofs::LoneLaws::all_entered))]
     fn nameless(&self) -> Option<&[NodeName]> {
         if self.has_dir() {
             return None;
@@ -211,6 +218,7 @@ impl<K: Keeper> Server for Lone<K> {
         self.keeper.counts()
     }
 
+    #[tactic(auto, using(crate::proofs::LoneLaws::space_none))]
     fn space(&self) -> Option<u64> {
         None
     }

@@ -26,6 +26,7 @@ pub(crate) enum Presence {
 
 impl Presence {
     /// The node of a name, if it is there.
+    #[tactic(auto, using(crate::proofs::LoneLaws::find_there, crate::proofs::LoneLaws::find_apart, crate::proofs::LoneLaws::find_nameless))]
     pub(crate) fn find(&self, node: NodeName) -> Option<LoneNode>
         ensures found { (kind : ServerKind) (text : List ℕ) (held : List ℕ) → option_map (node_of kind text held) result ≡ fin.get (nodes_of kind text held self.now) node }
         ensures there { IfSome result (λ lone. (self.now ≡ Presence.There lone) × (lone.name ≡ node)) }
