@@ -6,7 +6,7 @@ use Rattle.hurd_sight.specs.Parts.{part_of}
 use Rattle.hurd_sight.specs.declared.parts.SeenPart.{SeenPart}
 use Rattle.hurd_touches.specs.declared.noted.Noted.{Noted}
 use Rattle.hurd_touches.specs.declared.noted.Noted.TheVariants.{All, These}
-use Rattle.hurd_touches.specs.Touched.{Adds, Listed, Notes, is_all}
+use Rattle.hurd_touches.specs.Touched.{Adds, Notes, is_all}
 
 among_parts : (x : SeenPart) (xs : List SeenPart) → IsAmong x xs → IsAmong (part_of x) (map part_of xs)
 among_parts x [] h = absurd h

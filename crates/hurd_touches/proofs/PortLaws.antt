@@ -10,25 +10,25 @@ use Rattle.hurd_trans_iface.specs.Meaning.{Meaning}
 use Rattle.hurd_trans_iface.proofs.Goods.{good}
 use Rattle.hurd_nodes.specs.Needs.{streams_by}
 use Rattle.hurd_nodes.specs.Shown.{ServerInfo, asked_of}
-use Rattle.hurd_machine.proofs.Common.{AttrOf, BodyOf, Did, Errno, IdSets, Io, IoRight, Name, Named, OnDid, OnDrop, OnRight, OpenFlags, OpenOf, Part, PendingStart, READ, Right, TaskOf, WRITE, World, asked_at, asked_parts, handle_asks, header_at, info_at, io_right_of, open_at, pending_of, port_asks, ports_of, space_at, stream_at}
+use Rattle.hurd_machine.proofs.Common.{Did, Errno, IdSets, Io, IoRight, Name, Named, OnDid, OnDrop, OnRight, OpenFlags, OpenOf, Part, READ, TaskOf, WRITE, World, asked_at, asked_parts, handle_asks, header_at, info_at, io_right_of, open_at, pending_of, port_asks, ports_of, space_at, stream_at}
 use Rattle.hurd_machine.specs.World.{node_at, sets_attrs_at}
 use Rattle.hurd_machine.specs.Handle.{any_mode}
 use Rattle.hurd_machine.specs.declared.handle.Handle.{Handle}
 use Rattle.hurd_machine.specs.declared.call.Whence.{Whence}
-use Rattle.hurd_machine.specs.Touched.{Changes, OnTotal, Resizes}
+use Rattle.hurd_machine.specs.Touched.{Changes}
 use Rattle.hurd_machine.proofs.Asks.{first_ok, given_ok, on_ok}
 use Rattle.hurd_machine.proofs.Spaces.{effect_fits}
 use Rattle.hurd_ports.specs.Tables.{right_of}
 use Rattle.hurd_core.specs.Core.{send_asks}
 use Rattle.hurd_rights.specs.Rights.{touches_deallocate, touches_send}
-use Rattle.hurd_io.specs.Io.{reads, touches_read, touches_write}
+use Rattle.hurd_io.specs.Io.{touches_read, touches_write}
 use Rattle.hurd_io.specs.Opens.{seek_asks, touches_seek, touches_set_openmodes}
 use Rattle.hurd_io.specs.Sharing.{share_asks, touches_share}
-use Rattle.hurd_io.proofs.Touching.{Touches, read_touches, write_touches}
+use Rattle.hurd_io.proofs.Touching.{read_touches, write_touches}
 use Rattle.hurd_files.specs.Files.{set_size_asks, touches_set_size}
 use Rattle.hurd_files.specs.Access.{setting_asks, touches_setting}
 use Rattle.hurd_fsys.specs.Starting.{pending_asks, startup_asks, touches_startup}
-use Rattle.hurd_touches.specs.Touched.{IsItsNode, IsItsOpen, OnBytes, OnPort, OnRead, OnStart, OnWrite}
+use Rattle.hurd_touches.specs.Touched.{IsItsNode, IsItsOpen, OnBytes, OnItsRight, OnPort, OnRead, OnStart, OnWrite}
 
 pub parts_of : {A : Type 0} (x : Result A Errno) (k : A → Part → Type 0) (p : Part) → asked_parts x k p → (a : A) × (x ≡ Ok a) × k a p
 unfolding asked_parts
@@ -163,41 +163,14 @@ startup_port w t m k on =
     (s.0, is.1 ∙ ap Some same, a.2)
 
 -- rights of a task, whatever they are for
-
-right_is : {a b : Right} → ◌≡◌ {A = Result Right Errno} (Ok a) (Ok b) → a ≡ b
-right_is e = cc (e)
-
 module _ (w : World) (t p : ℕ) where
-  -- what holds of the right under a port holds of this one, and where there is none of none
-  of_right : (P : Right → Type 0) (r : Right) → Ok r ≡ right_of (ports_of w) t p → (a : Right) → right_of (ports_of w) t p ≡ Ok a → P a → P r
-  of_right P r is a was h = subst P (right_is (sym was ∙ sym is)) h
+  pub deallocate_port : (k : Part) → touches_deallocate w t p k → OnItsRight w t p (OnDrop w) k
+  deallocate_port k on = parts_of (right_of (ports_of w) t p) _ k on
 
-  no_right : (e : Errno) → Err e ≡ right_of (ports_of w) t p → (a : Right) → right_of (ports_of w) t p ≡ Ok a → ⊥
-  no_right e is a was = let apart : ◌≡◌ {A = Result Right Errno} (Err e) (Ok a) = is ∙ was in absurd (cc (apart))
-
-  dropped : (k : Part) → touches_deallocate w t p k → (a : Right) × (right_of (ports_of w) t p ≡ Ok a) × OnDrop w a k
-  dropped k on = parts_of (right_of (ports_of w) t p) _ k on
-
-  pub deallocate_right : (r : Right) → Ok r ≡ right_of (ports_of w) t p → (k : Part) → touches_deallocate w t p k → OnDrop w r k
-  deallocate_right r is k on = let a = dropped k on in of_right (λ q. OnDrop w q k) r is a.0 a.1 a.2
-
-  pub deallocate_none : (e : Errno) → Err e ≡ right_of (ports_of w) t p → (k : Part) → touches_deallocate w t p k → ⊥
-  deallocate_none e is k on = let a = dropped k on in no_right e is a.0 a.1
-
-  module _ (q : ℕ) where
-    abbrev OnSend : Right → Part → Type 0
-    OnSend r k = OnRight w r k ⊎ (k ≡ TaskOf q)
-
-    sent : (k : Part) → touches_send w t p q k → (a : Right) × (right_of (ports_of w) t p ≡ Ok a) × OnSend a k
-    sent k on =
-        let a = parts_of (send_asks w t p q) _ k on in
-        let n = first_ok (right_of (ports_of w) t p) _ a.0 a.1 in
-        let g = given_ok _ _ _ a.0 n.2 in
-        let same : n.0 ≡ a.0 = right_is g.1 in
-        (a.0, n.1 ∙ ap Ok same, a.2)
-
-    pub send_right : (r : Right) → Ok r ≡ right_of (ports_of w) t p → (k : Part) → touches_send w t p q k → OnRight w r k ⊎ (k ≡ TaskOf q)
-    send_right r is k on = let a = sent k on in of_right (λ s. OnSend s k) r is a.0 a.1 a.2
-
-    pub send_none : (e : Errno) → Err e ≡ right_of (ports_of w) t p → (k : Part) → touches_send w t p q k → ⊥
-    send_none e is k on = let a = sent k on in no_right e is a.0 a.1
+  pub send_port : (q : ℕ) (k : Part) → touches_send w t p q k → OnItsRight w t p (λ r k. OnRight w r k ⊎ (k ≡ TaskOf q)) k
+  send_port q k on =
+      let a = parts_of (send_asks w t p q) _ k on in
+      let n = first_ok (right_of (ports_of w) t p) _ a.0 a.1 in
+      let g = given_ok _ _ _ a.0 n.2 in
+      let same : n.0 ≡ a.0 = cc (g.1) in
+      (a.0, n.1 ∙ ap Ok same, a.2)

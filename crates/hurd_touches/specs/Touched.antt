@@ -3,7 +3,8 @@ use Rattle.std.specs.Prelude.{◌≡◌, ◌⊎◌, ℕ, Bool, true, false, List
 use Rattle.hurd_creds.specs.declared.name.Name.{Name}
 use Rattle.hurd_ports.specs.declared.table.IoRight.{IoRight}
 use Rattle.hurd_ports.specs.declared.table.PendingStart.{PendingStart}
-use Rattle.hurd_ports.specs.Tables.{io_right_of, pending_of}
+use Rattle.hurd_ports.specs.declared.table.Right.{Right}
+use Rattle.hurd_ports.specs.Tables.{io_right_of, pending_of, right_of}
 use Rattle.hurd_machine.specs.Calls.{Call}
 use Rattle.hurd_trans_iface.specs.Answers.{entry_of}
 use Rattle.hurd_machine.specs.World.{World, IsAmong, body_at, ports_of, stream_at}
@@ -26,24 +27,28 @@ listed All = None
 listed (These parts) = Some parts
 
 -- a part that is noted: any, or one of these
-abbrev pub Listed : Noted → Part → Type 0
-Listed All p = Unit {0}
-Listed (These parts) p = IsAmong p (map part_of parts)
+abbrev pub IsNoted : Noted → Part → Type 0
+IsNoted All p = Unit {0}
+IsNoted (These parts) p = IsAmong p (map part_of parts)
 
 -- all that was noted stays noted, and all that P says is noted
 pub record Adds (P : Part → Type 0) (old new : Noted) : Type 0 where
-  pub kept : (p : Part) → Listed old p → Listed new p
-  pub added : (p : Part) → P p → Listed new p
+  pub kept : (p : Part) → IsNoted old p → IsNoted new p
+  pub added : (p : Part) → P p → IsNoted new p
 
 -- a call is noted: its task, and all that it touches
 pub record Notes (w : World) (t : ℕ) (c : Call) (old new : Noted) : Type 0 where
-  pub kept : (p : Part) → Listed old p → Listed new p
-  pub caller : Listed new (TaskOf t)
-  pub touched : (p : Part) → touches w t c p → Listed new p
+  pub kept : (p : Part) → IsNoted old p → IsNoted new p
+  pub caller : IsNoted new (TaskOf t)
+  pub touched : (p : Part) → touches w t c p → IsNoted new p
 
 -- what goes with the right under a port of task t, if that is one to use a node
 abbrev pub OnPort : World → ℕ → ℕ → (IoRight → Part → Type 0) → Part → Type 0
 OnPort w t p f k = (r : IoRight) × (io_right_of (ports_of w) t p ≡ Ok r) × f r k
+
+-- what goes with the right under a port of task t, whatever that is for
+abbrev pub OnItsRight : World → ℕ → ℕ → (Right → Part → Type 0) → Part → Type 0
+OnItsRight w t p f k = (r : Right) × (right_of (ports_of w) t p ≡ Ok r) × f r k
 
 -- the open of a right
 abbrev pub IsItsOpen : IoRight → Part → Type 0

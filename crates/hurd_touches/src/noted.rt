@@ -1,8 +1,7 @@
 //! Parts that calls touch.
-ghost use Rattle.std.specs.Prelude.{◌≡◌, option_copied};
-ghost use Rattle.hurd_machine.specs.Sight.{Part};
+ghost use Rattle.std.specs.Prelude.{◌≡◌, [], option_copied};
 ghost use Rattle.hurd_sight.specs.Parts.{part_of};
-ghost use Rattle.hurd_touches.specs.Touched.{Adds, Listed, is_all, listed};
+ghost use Rattle.hurd_touches.specs.Touched.{Adds, is_all, listed};
 
 use crate::part_list::PartList;
 use hurd_sight::SeenPart;
@@ -19,16 +18,9 @@ pub enum Noted {
 impl Noted {
     /// No part.
     pub fn none() -> Noted
-        ensures { (p : Part) → Listed result p → ⊥ }
+        ensures { result ≡ Noted.These [] }
     {
         Noted::These(PartList::none())
-    }
-
-    /// Any part.
-    pub fn all() -> Noted
-        ensures { (p : Part) → Listed result p }
-    {
-        Noted::All
     }
 
     /// Whether it may be any part.

@@ -1,11 +1,10 @@
 //! Parts that go with what a port of a task names.
-ghost use Rattle.hurd_machine.specs.World.{ports_of};
-ghost use Rattle.hurd_machine.specs.Touched.{OnRight, asked_parts};
-ghost use Rattle.hurd_ports.specs.Tables.{right_of};
+ghost use Rattle.std.specs.Prelude.{◌≡◌, ◌⊎◌};
+ghost use Rattle.hurd_machine.specs.Sight.{TaskOf};
+ghost use Rattle.hurd_machine.specs.Touched.{OnDrop, OnRight};
 ghost use Rattle.hurd_ports.specs.declared.table.Right.TheVariants.{Io};
 ghost use Rattle.hurd_core.specs.Core.{world_of};
-ghost use Rattle.hurd_touches.specs.Touched.{Adds, IsItsNode, IsItsOpen, OnBytes, OnPort, OnRead, OnStart, OnWrite};
-ghost use Rattle.hurd_rights.specs.Rights.{touches_deallocate, touches_send};
+ghost use Rattle.hurd_touches.specs.Touched.{Adds, IsItsNode, IsItsOpen, OnBytes, OnItsRight, OnPort, OnRead, OnStart, OnWrite};
 
 use crate::noted::Noted;
 use hurd_core::Core;
@@ -16,7 +15,7 @@ use hurd_trans_iface::Server;
 impl Noted {
     /// What giving a port up touches.
     pub(crate) fn add_deallocated<S: Server>(&mut self, core: &Core<S>, task: TaskId, port: u64)
-        ensures { Adds (touches_deallocate (world_of S.meaning core.now) task.0 port) self.old self.new }
+        ensures { let w = world_of S.meaning core.now in Adds (OnItsRight w task.0 port (OnDrop w)) self.old self.new }
     {
         if let Ok(right) = core.ports().right(task, port) {
             self.add_dropped(core, right);
@@ -31,7 +30,7 @@ impl Noted {
         port: u64,
         to: TaskId,
     )
-        ensures { Adds (touches_send (world_of S.meaning core.now) task.0 port to.0) self.old self.new }
+        ensures { let w = world_of S.meaning core.now in Adds (OnItsRight w task.0 port (λ r k. OnRight w r k ⊎ (k ≡ TaskOf to.0))) self.old self.new }
     {
         if let Ok(right) = core.ports().right(task, port) {
             self.add_right(core, right);
