@@ -47,6 +47,7 @@ impl<S: Server> Core<S> {
     /// The right to use a node of a task under a number.
     ///
     /// Errors, in order: `ESRCH` no such task, `EBADF` no such port, or one that controls a server.
+    #[inline(always)]
     pub fn io_right(&self, task: TaskId, port: u64) -> Result<&IoRight, Errno>
         ensures { lent result ≡ io_right_of (ports_of (world_of S.meaning self.now)) task.0 port }
     {
@@ -77,6 +78,7 @@ impl<S: Server> Core<S> {
     ///
     /// Errors, in order: `ESRCH` no such task, `EBADF` no such port, or one that controls a server, `EDIED` no such node.
     #[tactic(auto, unfolding(hurd_machine::specs::Plan::on, hurd_machine::specs::Plan::first))]
+    #[inline(always)]
     pub fn port_node(&self, task: TaskId, port: u64) -> Result<PortNode, Errno>
         ensures is { named result ≡ port_asks (world_of S.meaning self.now) task.0 port }
         ensures told { IfOk result IsTold }
@@ -181,6 +183,7 @@ impl<S: Server> Core<S> {
     }
 
     /// The attributes of a node, if it is there.
+    #[inline(always)]
     pub fn attrs(&self, node: NodeName) -> Option<Attrs>
         ensures all { result ≡ option_map attrs_of (fin.get (world_of S.meaning self.now).nodes node) }
         ensures header { let w = world_of S.meaning self.now in option_map (header_with (words_at w node)) result ≡ header_at w node }
@@ -203,6 +206,7 @@ impl<S: Server> Core<S> {
     }
 
     /// The server that is active on a node, if one is.
+    #[inline(always)]
     pub fn active(&self, node: NodeName) -> Option<ServerName>
         ensures { result ≡ active_at (world_of S.meaning self.now) node }
     {
@@ -259,6 +263,7 @@ impl<S: Server> Core<S> {
     }
 
     /// The node of this name in a directory.
+    #[inline(always)]
     pub fn step(&self, dir: NodeName, name: &[u8]) -> Option<NodeName>
         ensures { result ≡ entry_of name.now (body_at (world_of S.meaning self.now) dir) }
     {

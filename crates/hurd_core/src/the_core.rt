@@ -98,6 +98,7 @@ impl<S: Server> Core<S> {
     /// Opens a node: a port of the task with these ids and an open of its own, under the task's next number.
     ///
     /// Errors, in order: `ESRCH` no such task, `EOVERFLOW`, `ENOMEM`.
+    #[inline(always)]
     pub fn open(
         &mut self,
         task: TaskId,
@@ -174,6 +175,7 @@ impl<S: Server> Core<S> {
     }
 
     /// The server of the node that a port is to use; none where there is no such port, or no such node.
+    #[inline(always)]
     fn home_used(&self, task: TaskId, port: u64) -> Option<ServerName>
         ensures { result ≡ home_of self.now.nodes.sites (right_of self.now.ports.state task.0 port) }
     {

@@ -35,6 +35,7 @@ impl<S: Server> Core<S> {
 }
 
 /// The server of the node that a right is to use; none where it is to use none, or the node is gone.
+#[inline(always)]
 pub(crate) fn home_used<S: Server>(nodes: &Nodes<S>, right: &Right) -> Option<ServerName>
     ensures { result ≡ home_used nodes.now.sites right.now }
 {
@@ -46,6 +47,7 @@ pub(crate) fn home_used<S: Server>(nodes: &Nodes<S>, right: &Right) -> Option<Se
 }
 
 /// So many users of a server more, if there is a server. There is room for one server more.
+#[inline(always)]
 pub(crate) fn add(users: &mut Users, server: Option<ServerName>, more: u128)
     requires room { 0 < spare users.old }
     requires fits { IfSome server (λ s. counted users.old.entries s + more ≤ u128.MAX) }
@@ -59,6 +61,7 @@ pub(crate) fn add(users: &mut Users, server: Option<ServerName>, more: u128)
 }
 
 /// So many users of a server less, if there is a server.
+#[inline(always)]
 pub(crate) fn subtract(users: &mut Users, server: Option<ServerName>, less: u128)
     requires { (s : Name) → if_so (is_home s server) less ≤ counted users.old.entries s }
     ensures less { (s : Name) → counted users.new.entries s + if_so (is_home s server) less ≡ counted users.old.entries s }

@@ -1,5 +1,5 @@
 -- Names and their order.
-use Rattle.std.specs.Prelude.{ℕ, ◌==◌, ◌&&◌, Bool, refl}
+use Rattle.std.specs.Prelude.{ℕ, ◌==◌, ◌&&◌, ◌*◌, Bool, bit_xor, refl}
 use Rattle.std.specs.Ordering.{nat_cmp, ordering_then}
 use Rattle.std.specs.Coded.{Coded, code_by, coded×, coded_ℕ}
 use Rattle.std.specs.declared.cmp.Ordering.{Ordering}
@@ -20,3 +20,7 @@ coded_name = code_by (ℕ × ℕ) (coded× coded_ℕ coded_ℕ) (λ n. (n.task.0
 -- whether two names are one
 abbrev pub same_name : Name → Name → Bool
 same_name a b = (a.task.0 == b.task.0) && (a.count == b.count)
+
+-- both numbers of a name as one, by which it is found
+abbrev pub number_of_name : Name → ℕ
+number_of_name n = bit_xor n.count (n.task.0 * 4294967296)

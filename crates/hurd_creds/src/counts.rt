@@ -14,6 +14,7 @@ use indexmap::IndexMap;
 pub type Counts = IndexMap<Name, u128>;
 
 /// How often the name is counted.
+#[inline(always)]
 pub fn count(counts: &Counts, name: Name) -> u128
     ensures { result ≡ counted counts.now.entries name }
 {
@@ -24,6 +25,7 @@ pub fn count(counts: &Counts, name: Name) -> u128
 }
 
 /// Counts the name so many times more. There is room for one name more.
+#[inline(always)]
 pub fn add(counts: &mut Counts, name: Name, more: u128)
     requires room { 0 < spare counts.old }
     requires fits { counted counts.old.entries name + more ≤ u128.MAX }
@@ -39,6 +41,7 @@ pub fn add(counts: &mut Counts, name: Name, more: u128)
 }
 
 /// Counts the name so many times less, and keeps nothing of it if it is counted no more. Takes no room.
+#[inline(always)]
 pub fn subtract(counts: &mut Counts, name: Name, less: u128)
     requires { less ≤ counted counts.old.entries name }
     ensures less { (n : Name) → counted counts.new.entries n + if_so (same_name n name) less ≡ counted counts.old.entries n }

@@ -58,6 +58,7 @@ impl Ids {
     }
 
     /// A copy.
+    #[inline(always)]
     pub fn copied(&self, alloc: Global) -> Result<Ids, AllocError>
         ensures { IfOk result (λ ids. ids ≡ self.now) }
     {
@@ -65,6 +66,7 @@ impl Ids {
     }
 
     /// The sets of these ids, which are stored as they stand.
+    #[inline(always)]
     fn holding(alloc: Global, uids: &[u32], gids: &[u32]) -> Result<Ids, AllocError>
         ensures sets { IfOk result (λ ids. ids ≡ record { uids = set.from_list uids.now; gids = set.from_list gids.now }) }
         ensures inline { length uids.now ≤ 8 → length gids.now ≤ 8 → IsOk result }
@@ -142,6 +144,7 @@ impl Ids {
     }
 
     /// Whether these ids may do this with a node of these attributes (GNU Hurd Reference Manual, Files and Users).
+    #[inline(always)]
     pub fn may(&self, attrs: &Attrs, want: Want) -> bool
         ensures { result ≡ may self.now attrs.now want }
     {

@@ -46,10 +46,12 @@ impl Server for ServerBox {
         in_box!(self, server => server.targets(alloc))
     }
 
+    #[inline(always)]
     fn attrs(&self, node: NodeName) -> Option<Attrs> {
         in_box!(self, server => server.attrs(node))
     }
 
+    #[inline(always)]
     fn step(&self, dir: NodeName, name: &[u8]) -> Option<NodeName> {
         in_box!(self, server => server.step(dir, name))
     }

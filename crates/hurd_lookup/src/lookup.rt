@@ -56,6 +56,7 @@ pub(crate) fn found_asked<'a, 'p, S: Server>(
 /// In place of a translator that waits, the one that is to be started first by the task, with its own ids.
 ///
 /// Errors: `ESRCH` no such task, those of `first_unstarted`.
+#[inline(always)]
 fn sooner<'a, 'p, S: Server>(
     core: &Core<S>,
     alloc: Global,

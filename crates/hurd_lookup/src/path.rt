@@ -34,6 +34,7 @@ pub(crate) fn from_name(path: &[u8]) -> &[u8]
 }
 
 /// The first name of a path, and what follows it; none where the path has no name.
+#[inline(always)]
 pub(crate) fn first_name(path: &[u8]) -> Option<(&[u8], &[u8])>
     ensures { MatchOption result (names_in path.entry.now ≡ [])
         (λ parts. (names_in path.entry.now ≡ parts.0.now ∷ names_in parts.1.now) × (length parts.1.now < length path.entry.now)) }

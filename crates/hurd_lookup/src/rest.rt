@@ -10,6 +10,7 @@ use hurd_creds::MOST_PATH;
 use std::alloc::{AllocError, Global};
 
 /// Whether no name is left.
+#[inline(always)]
 pub(crate) fn is_last(path: &[u8]) -> bool
     ensures { result ≡ is_last (names_in path.now) }
 {

@@ -95,6 +95,7 @@ impl<S: Server> Nodes<S> {
 
     /// The box that serves a node.
     #[tactic(auto, using(crate::proofs::SeatLaws::boxes))]
+    #[inline(always)]
     pub(crate) fn server_of(&self, node: NodeName) -> Option<&S>
         ensures { option_map S.meaning (option_copied result) ≡ box_by (mean S.meaning self.now.seats) (home_in self.now.sites node) }
     {
@@ -106,6 +107,7 @@ impl<S: Server> Nodes<S> {
 
     /// The attributes of a node, if it is there.
     #[tactic(auto, using(crate::proofs::ShownLaws::by_box))]
+    #[inline(always)]
     pub fn attrs(&self, node: NodeName) -> Option<Attrs>
         ensures all { result ≡ option_map attrs_of (fin.get (shown S.meaning self.now).nodes node) }
         ensures header { option_map header_in result ≡ option_map told_header (header_of (shown S.meaning self.now).nodes node) }
@@ -117,6 +119,7 @@ impl<S: Server> Nodes<S> {
     }
 
     /// The server of a node, if it has one.
+    #[inline(always)]
     pub fn home(&self, node: NodeName) -> Option<ServerName>
         ensures { result ≡ home_in (shown S.meaning self.now).sites node }
     {
@@ -139,6 +142,7 @@ impl<S: Server> Nodes<S> {
 
     /// The server that is active on a node, if one is.
     #[tactic(auto, using(crate::proofs::HomeLaws::by_map))]
+    #[inline(always)]
     pub fn active(&self, node: NodeName) -> Option<ServerName>
         ensures { result ≡ active_in (shown S.meaning self.now).sites node }
     {
@@ -147,6 +151,7 @@ impl<S: Server> Nodes<S> {
 
     /// The root of a server, if the server is there.
     #[tactic(auto, using(crate::proofs::StayLaws::by_place))]
+    #[inline(always)]
     pub fn root_of(&self, server: ServerName) -> Option<NodeName>
         ensures { result ≡ option_map (λ (i : ServerInfo). i.root) (fin.get (shown S.meaning self.now).servers server) }
     {
@@ -266,6 +271,7 @@ impl<S: Server> Nodes<S> {
 
     /// The node of this name in a directory.
     #[tactic(auto, using(crate::proofs::ShownLaws::by_box))]
+    #[inline(always)]
     pub fn step(&self, dir: NodeName, name: &[u8]) -> Option<NodeName>
         ensures { result ≡ entry_of name.now (body_of (shown S.meaning self.now).nodes dir) }
     {

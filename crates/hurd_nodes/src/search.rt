@@ -18,6 +18,7 @@ use std::alloc::AllocError;
 
 /// The server of a node.
 #[tactic(auto, using(crate::proofs::HomeLaws::by_map))]
+#[inline(always)]
 pub(crate) fn home_of(sites: &Sites, node: NodeName) -> Option<ServerName>
     ensures { result ≡ home_in (sites_of sites.now.entries) node }
 {
@@ -25,6 +26,7 @@ pub(crate) fn home_of(sites: &Sites, node: NodeName) -> Option<ServerName>
 }
 
 /// Whether the first seat is that of this server.
+#[inline(always)]
 fn is_first<S>(seats: &Seats<S>, name: ServerName) -> bool
     ensures { result ≡ is_home name (option_map seat_key (slice_get seats.now.entries 0)) }
 {
@@ -35,6 +37,7 @@ fn is_first<S>(seats: &Seats<S>, name: ServerName) -> bool
 }
 
 /// The index of the seat of a server. The first seat is looked at first: where there is one server alone, that is it.
+#[inline(always)]
 pub(crate) fn place_of_seat<S>(seats: &Seats<S>, name: ServerName) -> Option<usize>
     ensures is { result ≡ place_by seat_key name seats.now.entries }
     ensures below { IfSome result (λ i. i < length seats.now.entries) }
@@ -46,6 +49,7 @@ pub(crate) fn place_of_seat<S>(seats: &Seats<S>, name: ServerName) -> Option<usi
 }
 
 /// The index of the seat of a node's server.
+#[inline(always)]
 pub(crate) fn place_of_server<S>(sites: &Sites, seats: &Seats<S>, node: NodeName) -> Option<usize>
     ensures is { result ≡ place_in seats.now.entries (home_in (sites_of sites.now.entries) node) }
     ensures below { IfSome result (λ i. i < length seats.now.entries) }

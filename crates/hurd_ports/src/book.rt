@@ -52,6 +52,7 @@ impl Book {
     }
 
     /// Counts a right more. There is room for what it names.
+    #[inline(always)]
     pub(crate) fn add(&mut self, right: &Right)
         requires room { HasRoom self.old }
         requires fits { (k : Sort) (n : Name) → count_of k n self.old ≤ most_counted }
@@ -70,6 +71,7 @@ impl Book {
     }
 
     /// Counts a right less.
+    #[inline(always)]
     pub(crate) fn subtract(&mut self, right: &Right)
         requires { (k : Sort) (n : Name) → naming k n right.now ≤ count_of k n self.old }
         ensures { (k : Sort) (n : Name) → count_of k n self.new + naming k n right.now ≡ count_of k n self.old }

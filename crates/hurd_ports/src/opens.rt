@@ -83,6 +83,7 @@ impl Opens {
     }
 
     /// Adds an open of a node, from its beginning. There is room for one more, and none has its name.
+    #[inline(always)]
     pub(crate) fn add(&mut self, name: OpenName, node: NodeName, modes: OpenFlags)
         requires room { 0 < self.old.room }
         requires fresh { fin.get self.old.all name ≡ None }
@@ -101,6 +102,7 @@ impl Opens {
     }
 
     /// Takes out the open of this name.
+    #[inline(always)]
     pub(crate) fn remove(&mut self, name: OpenName)
         ensures { self.new.all ≡ fin.remove self.old.all name }
     {

@@ -134,6 +134,7 @@ impl Ports {
     /// The right of a task under a number.
     ///
     /// Errors, in order: `ESRCH` no such task, `EBADF` no such port.
+    #[inline(always)]
     pub fn right(&self, task: TaskId, port: u64) -> Result<&Right, Errno>
         ensures { lent result ≡ right_of self.now.state task.0 port }
     {
@@ -149,6 +150,7 @@ impl Ports {
     /// The right to use a node of a task under a number.
     ///
     /// Errors, in order: `ESRCH` no such task, `EBADF` no such port, or one that controls a server.
+    #[inline(always)]
     pub fn io_right(&self, task: TaskId, port: u64) -> Result<&IoRight, Errno>
         ensures { lent result ≡ io_right_of self.now.state task.0 port }
     {
@@ -283,6 +285,7 @@ impl Ports {
     /// is shared, sent or received, a start is pended or no longer so, or memory is reserved anew.
     ///
     /// `ENOMEM`.
+    #[inline(always)]
     pub fn reserve(&mut self, task: TaskId) -> Result<(), Errno>
         requires { task.0 < length self.old.state.tasks }
         ensures ready { IfOk result (λ _. self.new.ready ≡ Some task.0) }
@@ -306,6 +309,7 @@ impl Ports {
 
     /// A port of the task on the node, with an open of its own, in the memory that was reserved; answers its number,
     /// the task's next. Takes no memory.
+    #[inline(always)]
     pub fn fill(
         &mut self,
         task: TaskId,
@@ -338,6 +342,7 @@ impl Ports {
     /// A port of the task on the node, with an open of its own; answers its number, the task's next. There is room for it.
     ///
     /// `ENOMEM`, and no port changes.
+    #[inline(always)]
     pub fn insert(
         &mut self,
         task: TaskId,
