@@ -10,7 +10,7 @@ use Rattle.hurd_machine.specs.Sound.{Sound}
 use Rattle.hurd_sight.specs.Parts.{part_of}
 use Rattle.hurd_sight.specs.Reach.{among}
 use Rattle.hurd_sight.specs.declared.parts.SeenPart.{SeenPart}
-use Rattle.hurd_touches.specs.Touched.{Listed, listed}
+use Rattle.hurd_touches.specs.Touched.{IsNoted, listed}
 use Rattle.hurd_touches.specs.declared.noted.Noted.{Noted}
 use Rattle.hurd_touches.specs.declared.noted.Noted.TheVariants.{All, These}
 use Rattle.hurd_touches.proofs.UnnoticedLaws.{noted_nothing}
@@ -43,7 +43,7 @@ is_false : (b : Bool) → not b ≡ true → b ≡ false
 is_false true is = absurd (true≢false (sym is))
 is_false false is = refl
 
-missed : (tasks : List TaskId) (w : World) (v : View) (noted : Noted) → Views tasks w v → misses (listed noted) (Some v) ≡ true → (p : Part) → Listed noted p → sight.Sees (among tasks) w p → ⊥
+missed : (tasks : List TaskId) (w : World) (v : View) (noted : Noted) → Views tasks w v → misses (listed noted) (Some v) ≡ true → (p : Part) → IsNoted noted p → sight.Sees (among tasks) w p → ⊥
 missed tasks w v All views is p at sees = absurd (true≢false (sym is))
 missed tasks w v (These parts) views is p at sees = none_seen tasks w v parts views (is_false (list_any (tells_in v) parts) is) p at sees
 
