@@ -73,6 +73,7 @@ pub fn io_restrict_auth<S: Server>(
 ///
 /// Errors, in order: `ESRCH` no such task, `EBADF` no such first port, `EBADF` no such second one, `EDIED` the first one's
 /// node isn't there, `EDIED` the second one's isn't.
+#[tactic(auto, using(std::proofs::lemmas::Result::err_from_is_err_and), unfolding(hurd_machine::specs::Plan::answered))]
 pub fn io_identity<S: Server>(
     core: &Core<S>,
     task: TaskId,
