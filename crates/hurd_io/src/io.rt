@@ -115,7 +115,7 @@ pub fn io_write<S: Server>(
 /// The attributes of the node of a port, whatever the port has it open for, and whether a server is active on it (`io.defs`). Takes no memory.
 ///
 /// Errors, in order: `ESRCH` no such task, `EBADF` no such port, `EDIED` no such node.
-#[tactic(auto, using(std::proofs::lemmas::Result::err_from_is_err_and), unfolding(hurd_machine::specs::Plan::answered, hurd_machine::specs::Plan::first))]
+#[tactic(auto, unfolding(hurd_machine::specs::Plan::answered, hurd_machine::specs::Plan::first))]
 pub fn io_stat<S: Server>(core: &Core<S>, task: TaskId, port: u64) -> Result<Stat, Errno>
     ensures { let w = world_of S.meaning core.now in Follows w (plan_stat w task.0 port) (told reply.Stat result) w }
 {

@@ -65,7 +65,7 @@ fn seek_asked<S: Server>(
 ///
 /// Errors, in order: `ESRCH` no such task, `EBADF` no such port, `EDIED` no such node, `EINVAL` a place below 0 or past
 /// 9,223,372,036,854,775,807.
-#[tactic(auto, using(std::proofs::lemmas::Result::err_from_is_err_and), unfolding(hurd_machine::specs::Plan::answered))]
+#[tactic(auto, unfolding(hurd_machine::specs::Plan::answered))]
 pub fn io_seek<S: Server>(
     core: &mut Core<S>,
     task: TaskId,
@@ -98,7 +98,7 @@ fn readable_asked<S: Server>(core: &Core<S>, task: TaskId, port: u64) -> Result<
 /// How many bytes the server has to read from the cursor on of what a port has open (`io.defs`). Takes no memory.
 ///
 /// Errors, in order: `ESRCH` no such task, `EBADF` no such port, or not opened to read, `EDIED` no such node, `EISDIR`.
-#[tactic(auto, using(std::proofs::lemmas::Result::err_from_is_err_and), unfolding(hurd_machine::specs::Plan::answered))]
+#[tactic(auto, unfolding(hurd_machine::specs::Plan::answered))]
 pub fn io_readable<S: Server>(core: &Core<S>, task: TaskId, port: u64) -> Result<u64, Errno>
     ensures { let w = world_of S.meaning core.now in Follows w (plan_readable w task.0 port) (told reply.Count result) w }
 {
@@ -108,7 +108,7 @@ pub fn io_readable<S: Server>(core: &Core<S>, task: TaskId, port: u64) -> Result
 /// What a port has its node open for: those of `READ`, `WRITE`, `EXEC` and `APPEND` (`io.defs`). Takes no memory.
 ///
 /// Errors, in order: `ESRCH` no such task, `EBADF` no such port, `EDIED` no such node.
-#[tactic(auto, using(std::proofs::lemmas::Result::err_from_is_err_and), unfolding(hurd_machine::specs::Plan::answered))]
+#[tactic(auto, unfolding(hurd_machine::specs::Plan::answered))]
 pub fn io_get_openmodes<S: Server>(
     core: &Core<S>,
     task: TaskId,
@@ -122,7 +122,7 @@ pub fn io_get_openmodes<S: Server>(
 /// Lets what a port has open append, where `APPEND` is given, or else not; its other modes stay (`io.defs`). Takes no memory.
 ///
 /// Errors, in order: `ESRCH` no such task, `EBADF` no such port, `EDIED` no such node.
-#[tactic(auto, using(std::proofs::lemmas::Result::err_from_is_err_and), unfolding(hurd_machine::specs::Plan::answered))]
+#[tactic(auto, unfolding(hurd_machine::specs::Plan::answered))]
 pub fn io_set_all_openmodes<S: Server>(
     core: &mut Core<S>,
     task: TaskId,
