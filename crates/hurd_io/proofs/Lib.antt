@@ -2,6 +2,5 @@ pub mod IoLaws
 pub mod RowLaws
 pub mod OpensLaws
 pub mod PlaceLaws
-pub mod ShareRows
 pub mod SharingLaws
 pub mod Touching

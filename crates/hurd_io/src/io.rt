@@ -39,6 +39,7 @@ fn read_asked<S: Server>(
 ///
 /// Errors, in order: `ESRCH` no such task, `EBADF` no such port, or not opened to read, `EDIED` no such node, `EISDIR`,
 /// `EINVAL` an offset below -1, `EWOULDBLOCK` a pipe that is empty and has a writer, `EIO` a drip with nothing left, `ENOMEM`.
+#[tactic(auto, unfolding(hurd_machine::specs::Plan::answered))]
 pub fn io_read<S: Server>(
     core: &mut Core<S>,
     alloc: Global,
@@ -94,6 +95,7 @@ fn write_asked<S: Server>(
 ///
 /// Errors, in order: `ESRCH` no such task, `EBADF` no such port, or not opened to write, `EDIED` no such node, `EINVAL` an
 /// offset below -1, `EFBIG` an end past 16,777,216, `EPIPE` a pipe without a reader, `EWOULDBLOCK` a pipe that is full, `ENOMEM`.
+#[tactic(auto, unfolding(hurd_machine::specs::Plan::answered))]
 pub fn io_write<S: Server>(
     core: &mut Core<S>,
     task: TaskId,

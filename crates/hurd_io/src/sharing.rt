@@ -13,6 +13,7 @@ use std::alloc::Global;
 /// Makes another port like this one, with its ids; the two share the open (`io.defs`).
 ///
 /// Errors, in order: `ESRCH` no such task, `EBADF` no such port, `EDIED` no such node, `EOVERFLOW` no number is left, `ENOMEM`.
+#[tactic(auto, unfolding(hurd_machine::specs::Plan::answered, hurd_machine::specs::Plan::first, hurd_machine::specs::Plan::on, hurd_machine::specs::Plan::given))]
 pub fn io_duplicate<S: Server>(
     core: &mut Core<S>,
     alloc: Global,
@@ -32,6 +33,7 @@ pub fn io_duplicate<S: Server>(
 /// Authentication).
 ///
 /// Errors, in order: `ESRCH` no such task, `EBADF` no such port, `EDIED` no such node, `EOVERFLOW` no number is left, `ENOMEM`.
+#[tactic(auto, unfolding(hurd_machine::specs::Plan::answered, hurd_machine::specs::Plan::first, hurd_machine::specs::Plan::on, hurd_machine::specs::Plan::given))]
 pub fn io_reauthenticate<S: Server>(
     core: &mut Core<S>,
     alloc: Global,
@@ -52,6 +54,7 @@ pub fn io_reauthenticate<S: Server>(
 /// open (`io.defs`).
 ///
 /// Errors, in order: `ESRCH` no such task, `EBADF` no such port, `EDIED` no such node, `EOVERFLOW` no number is left, `ENOMEM`.
+#[tactic(auto, unfolding(hurd_machine::specs::Plan::answered, hurd_machine::specs::Plan::first, hurd_machine::specs::Plan::on, hurd_machine::specs::Plan::given))]
 pub fn io_restrict_auth<S: Server>(
     core: &mut Core<S>,
     alloc: Global,

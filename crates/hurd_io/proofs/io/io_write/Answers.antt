@@ -1,35 +1,13 @@
 -- What the server takes, and the cursor past it.
-use Rattle.std.proofs.Common.{sym, refl, w64}
+use Rattle.std.proofs.Common.{sym, w64}
 use Rattle.std.proofs.lemmas.Int.{to_z-of_z}
 use Rattle.std.proofs.lemmas.Result.{err_from_is_err_and}
 use Rattle.hurd_machine.specs.declared.call.Reply.TheVariants.{Count}
 use Rattle.hurd_nodes.specs.Needs.{FreeWrite}
 use Rattle.hurd_core.specs.Core.{world_of}
 use Rattle.hurd_io.specs.Io.{write_asks, writes}
-use Rattle.hurd_io.proofs.RowLaws.{io-refused, io-refused-free, io-short, io-short-free, io-done}
+use Rattle.hurd_io.proofs.RowLaws.{io-short-free}
 use Rattle.hurd_io.proofs.io.io_write.Goals as goal
-
-pub returns-in_err-to-clause-planned : goal.returns-in_err-to-clause-planned
-returns-in_err-to-clause-planned g c =
-    let w = world_of g.S.Server.meaning c.args.core.now in
-    let asked = rw (to_z-of_z w64 c.args.offset c.ranges.offset) at c.in_err-to.ensures in
-    let p = err_from_is_err_and c.from_residual.result c.from_residual.ensures.1 in
-    rw (p.1, p.2) (io-refused w (write_asks w c.args.task.0 c.args.port c.args.offset) (writes c.args.bytes.now w) (λ n. Count n) (λ n. n) (λ x. refl) _ (sym asked))
-
-pub returns-in_err-to-clause-free : goal.returns-in_err-to-clause-free
-returns-in_err-to-clause-free g c free =
-    let w = world_of g.S.Server.meaning c.args.core.now in
-    let asked = rw (to_z-of_z w64 c.args.offset c.ranges.offset) at c.in_err-to.ensures in
-    let p = err_from_is_err_and c.from_residual.result c.from_residual.ensures.1 in
-    rw (p.1, p.2) (io-refused-free w (write_asks w c.args.task.0 c.args.port c.args.offset) (writes c.args.bytes.now w) (λ n. Count n) (λ n. n) (λ x. refl) _ (sym asked))
-
-pub returns-in_err-count-clause-planned : goal.returns-in_err-count-clause-planned
-returns-in_err-count-clause-planned g c =
-    let w = world_of g.S.Server.meaning c.args.core.now in
-    let asked = rw (to_z-of_z w64 c.args.offset c.ranges.offset) at c.in_ok-to.ensures in
-    let p = err_from_is_err_and c.from_residual-in_err-count.result c.from_residual-in_err-count.ensures.1 in
-    rw (p.1, p.2)
-    (io-short w (write_asks w c.args.task.0 c.args.port c.args.offset) (writes c.args.bytes.now w) (λ n. Count n) (λ n. n) (λ x. refl) c.in_ok-to.to (sym asked) _ _ c.in_err-count.ensures.does)
 
 pub returns-in_err-count-clause-free : goal.returns-in_err-count-clause-free
 returns-in_err-count-clause-free g c free =
@@ -38,14 +16,5 @@ returns-in_err-count-clause-free g c free =
     let owed = c.in_err-count.ensures in
     let p = err_from_is_err_and c.from_residual-in_err-count.result c.from_residual-in_err-count.ensures.1 in
     rw (p.1, p.2)
-    (io-short-free w (write_asks w c.args.task.0 c.args.port c.args.offset) (writes c.args.bytes.now w) (λ n. Count n) (λ n. n) (λ x. refl) c.in_ok-to.to (sym asked)
+    (io-short-free w (write_asks w c.args.task.0 c.args.port c.args.offset) (writes c.args.bytes.now w) (λ n. Count n) (λ n. n) c.in_ok-to.to (sym asked)
     (λ a. FreeWrite a.at c.args.bytes.now) _ _ owed.does owed.free free)
-
-pub returns-clause-planned : goal.returns-clause-planned
-returns-clause-planned g c =
-    let w = world_of g.S.Server.meaning c.args.core.now in
-    let asked = rw (to_z-of_z w64 c.args.offset c.ranges.offset) at c.in_ok-to.ensures in
-    io-done w (write_asks w c.args.task.0 c.args.port c.args.offset) (writes c.args.bytes.now w) (λ n. Count n) (λ n. n) (λ x. refl) c.in_ok-to.to (sym asked) c.in_ok-count.count _ _ c.in_ok-count.ensures.does c.advance.ensures
-
-pub returns-clause-free : goal.returns-clause-free
-returns-clause-free g c free = returns-clause-planned g c
