@@ -4,7 +4,7 @@ ghost use Rattle.std.specs.Option.{option_map};
 ghost use Rattle.hurd_kinds.specs.Boxes.{box_meaning};
 ghost use Rattle.hurd_machine.specs.Calls.{lacks_memory};
 ghost use Rattle.hurd_world.specs.Held.{state_of, world_of};
-ghost use Rattle.hurd_world.specs.Noting.{Stays};
+ghost use Rattle.hurd_world.specs.Noting.{NotesWhatIsTouched};
 ghost use Rattle.hurd_lists.specs.Calls.{begun};
 ghost use Rattle.hurd_lists.specs.Lists.{listed_by};
 ghost use Rattle.hurd_calls.specs.Making.{after_call, part_of};
@@ -48,7 +48,7 @@ pub fn part<S: Server>(
     ensures world { OnOk result (world_of S.meaning world.new ≡ after_call (listed_by S.meaning listed) (world_of S.meaning world.old)) }
     ensures err { IfErr result (λ _. (world_of S.meaning world.new ≡ world_of S.meaning world.old)
         ⊎ (world_of S.meaning world.new ≡ after_call (listed_by S.meaning listed) (world_of S.meaning world.old))) }
-    ensures noted { Stays (state_of S.meaning world.old) (state_of S.meaning world.new) }
+    ensures noted { NotesWhatIsTouched (state_of S.meaning world.old) (state_of S.meaning world.new) }
 {
     let ListedCall {
         task,

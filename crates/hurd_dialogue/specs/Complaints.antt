@@ -1,5 +1,5 @@
 -- What is said of a bad line: where it is and why it is bad, and below that the line itself.
-use Rattle.std.specs.Prelude.{ℕ, ◌-◌, ◌==◌, ◌++◌, List, [], ◌∷◌, Option, Some, None, codes, decimal, get_or, if◌then◌else◌, length, map, nat_lt, take}
+use Rattle.std.specs.Prelude.{ℕ, ◌-◌, ◌==◌, ◌++◌, List, [], ◌∷◌, Option, Some, codes, decimal, get_or, if◌then◌else◌, length, map, nat_lt, take}
 use Rattle.std.specs.List.{concat}
 use Rattle.hurd_words.specs.Escapes.{escaped_byte}
 use Rattle.hurd_words.specs.Lines.{lines_of}

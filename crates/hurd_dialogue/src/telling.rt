@@ -1,12 +1,12 @@
 //! A text on its way.
-ghost use Rattle.std.specs.Prelude.{◌≡◌, IfErr, IfOk, OnOk, map, string_bytes};
+ghost use Rattle.std.specs.Prelude.{◌≡◌, [], IfErr, IfOk, OnOk, map, string_bytes};
 ghost use Rattle.std.specs.Option.{option_map};
 ghost use Rattle.hurd_creds.specs.declared.name.TaskId.{TaskId};
 ghost use Rattle.hurd_kinds.specs.Boxes.{box_meaning};
 ghost use Rattle.hurd_machine.specs.Sound.{Sound};
 ghost use Rattle.hurd_touches.specs.declared.noted.Noted.{Noted};
 ghost use Rattle.hurd_world.specs.Held.{world_of};
-ghost use Rattle.hurd_world.specs.Noting.{Stays};
+ghost use Rattle.hurd_world.specs.Noting.{NotesWhatIsTouched};
 ghost use Rattle.hurd_dialogue.specs.Parts.{Goes, Way, next_task, standing};
 ghost use Rattle.hurd_dialogue.specs.Sorts.{Begins, NotBegun, Sort};
 
@@ -38,11 +38,12 @@ pub trait Telling: Drop {
     /// The next part; none where all were told, and then nothing changes. An error is want of memory: the part is lost, and the text is to be dropped.
     fn next(&mut self, alloc: Global) -> Result<Option<Bytes>, AllocError>
         ensures goes { IfOk result (λ part. Goes (way self.old) part (way self.new)) }
-        ensures noted { OnOk result (Stays (standing (way self.old) (noted self.old)) (standing (way self.new) (noted self.new))) };
+        ensures noted { OnOk result (NotesWhatIsTouched (standing (way self.old) (noted self.old)) (standing (way self.new) (noted self.new))) };
 
     /// Notes from now on which parts calls touch.
     fn note(&mut self)
-        ensures { way self.new ≡ way self.old };
+        ensures way { way self.new ≡ way self.old }
+        ensures noted { noted self.new ≡ Noted.These [] };
 
     /// The parts that calls touched since `note`, or any.
     fn noted(&self) -> &Noted

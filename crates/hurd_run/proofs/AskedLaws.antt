@@ -12,8 +12,8 @@ use Rattle.hurd_shell.specs.Session.{Answers, Takes, TakesUnlessFailed, Tells, V
 use Rattle.hurd_shell.specs.Transcript.{AsksFor, Dialogue, Maker, ends, tells, wants, told_by}
 use Rattle.hurd_shell.specs.declared.session.Want.TheVariants.{Done, Output, Server}
 use Rattle.hurd_world.specs.Held.{state_of}
-use Rattle.hurd_world.specs.Noting.{Stays}
-use Rattle.hurd_world.proofs.NotingLaws.{stays_refl, stays_trans}
+use Rattle.hurd_world.specs.Noting.{NotesWhatIsTouched}
+use Rattle.hurd_world.proofs.NotingLaws.{notes_refl, notes_trans}
 use Rattle.hurd_run.specs.Scripts.{way_of}
 use Rattle.hurd_run.proofs.WayLaws.{task_next}
 
@@ -65,7 +65,7 @@ pub record Asking (start s : View ServerBox) : Type 0 where
   pub left : has_failed s ≡ false → told_by begin (left_in box_meaning s) ≡ told_by begin (left_in box_meaning start)
   pub given : has_failed s ≡ false → s.given ≡ start.given
   pub idle : has_failed s ≡ false → next_task s ≡ None → s ≡ start
-  pub noted : has_failed s ≡ false → Stays (state_of box_meaning start.world) (state_of box_meaning s.world)
+  pub noted : has_failed s ≡ false → NotesWhatIsTouched (state_of box_meaning start.world) (state_of box_meaning s.world)
 
 -- who waits for a server has a command on its way
 got_some : (cs : List CommandLine) (n : ℕ) → n < length cs → option_map (λ (c : CommandLine). c.task) (slice_get cs n) ≡ None → ⊥
@@ -77,7 +77,7 @@ waits_next : (s : View ServerBox) → waits_for s ≡ true → next_task s ≡ N
 waits_next s waits none = got_some s.commands s.given (ltb-true _ _ (and_parts _ _ waits).1) none
 
 pub asking_none : (s : View ServerBox) → Asking s s
-asking_none s = record { left = λ _. refl; given = λ _. refl; idle = λ _ _. refl; noted = λ _. stays_refl _ }
+asking_none s = record { left = λ _. refl; given = λ _. refl; idle = λ _ _. refl; noted = λ _. notes_refl _ }
 
 module _ (start s x : View ServerBox) (so : Asking start s) (fine : has_failed s ≡ false) where
   -- a part was told
@@ -110,14 +110,14 @@ module _ (start s x : View ServerBox) (so : Asking start s) (fine : has_failed s
       took_fine : has_failed u ≡ false → Takes box_meaning x (option_map box_meaning server) u
       took_fine still = elim takes [ inl failed ↦ absurd (let no = failed in cc) | inr took ↦ took ]
 
-      pub asked_more : Stays (state_of box_meaning s.world) (state_of box_meaning x.world) → (has_failed u ≡ false → Stays (state_of box_meaning x.world) (state_of box_meaning u.world)) → Asking start u
+      pub asked_more : NotesWhatIsTouched (state_of box_meaning s.world) (state_of box_meaning x.world) → (has_failed u ≡ false → NotesWhatIsTouched (state_of box_meaning x.world) (state_of box_meaning u.world)) → Asking start u
       asked_more first next = record {
         left = λ still.
             sym (answered_told begin (left_in box_meaning x) (left_in box_meaning u) words asks (answers (took_fine still)))
             ∙ (ap (told_by begin) wish.0 ∙ so.left fine);
         given = λ still. (took_fine still).5 ∙ (wish.5 ∙ so.given fine);
         idle = λ still none. absurd (waits_next x asked_waits (sym (took_fine still).4 ∙ none));
-        noted = λ still. stays_trans (so.noted fine) (stays_trans first (next still));
+        noted = λ still. notes_trans (so.noted fine) (notes_trans first (next still));
       }
 
       was : turns_left s ≡ suc (wants_by begin (left_in box_meaning x))

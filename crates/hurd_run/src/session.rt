@@ -7,7 +7,7 @@ ghost use Rattle.hurd_shell.specs.Session.{BegunWith};
 ghost use Rattle.hurd_kinds.specs.Boxes.{box_meaning};
 ghost use Rattle.hurd_world.specs.Boot.{boot_of};
 ghost use Rattle.hurd_world.specs.Held.{state_of};
-ghost use Rattle.hurd_world.specs.Noting.{Stays};
+ghost use Rattle.hurd_world.specs.Noting.{NotesWhatIsTouched};
 ghost use Rattle.hurd_dialogue.specs.Parts.{Goes};
 ghost use Rattle.hurd_run.specs.Faults.{NotBooted, NotRead};
 ghost use Rattle.hurd_run.specs.Scripts.{scripts, way_of};
@@ -84,7 +84,7 @@ pub(crate) fn next_part(
     session: &mut Session<ServerBox>,
 ) -> Result<Option<Bytes>, AllocError>
     ensures goes { IfOk result (λ part. (names : List (List ℕ)) → Goes (way_of session.old names) part (way_of session.new names)) }
-    ensures noted { OnOk result (Stays (state_of box_meaning session.old.world) (state_of box_meaning session.new.world)) }
+    ensures noted { OnOk result (NotesWhatIsTouched (state_of box_meaning session.old.world) (state_of box_meaning session.new.world)) }
 {
     'asked: loop {
         match session.next(alloc) {

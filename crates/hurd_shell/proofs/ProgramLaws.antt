@@ -7,8 +7,8 @@ use Rattle.hurd_machine.specs.Calls.{Call, Reply}
 use Rattle.hurd_machine.specs.declared.call.Call.TheVariants.{PortDeallocate}
 use Rattle.hurd_machine.specs.World.{World}
 use Rattle.hurd_laws.specs.Step.{reply_of, after}
-use Rattle.hurd_world.specs.Noting.{State, Stays}
-use Rattle.hurd_world.proofs.NotingLaws.{stays_refl, stays_trans}
+use Rattle.hurd_world.specs.Noting.{State, NotesWhatIsTouched}
+use Rattle.hurd_world.proofs.NotingLaws.{notes_refl, notes_trans}
 use Rattle.hurd_shell.specs.declared.commands.Printed.{Printed}
 use Rattle.hurd_shell.specs.declared.fault.Stop.{Stop}
 use Rattle.hurd_shell.specs.declared.fault.Stop.TheVariants.{Refused, Memory}
@@ -16,10 +16,10 @@ use Rattle.hurd_shell.specs.Programs.{Prog, gives, calls, asks, tried, bind, on_
 use Rattle.hurd_shell.specs.Progress.{Stepped, Leads, Ends, Does, ReachesTo, Reaches, stopped}
 
 pub leads_refl : {A : Type 0} (t : ℕ) (p : Prog A) (w : State) → Leads t p w p w
-leads_refl t p w = record { goes = refl; stays = stays_refl w }
+leads_refl t p w = record { goes = refl; stays = notes_refl w }
 
 pub leads_trans : {A : Type 0} {t : ℕ} {p q s : Prog A} {w x y : State} → Leads t p w q x → Leads t q x s y → Leads t p w s y
-leads_trans a b = record { goes = a.goes ∙ b.goes; stays = stays_trans a.stays b.stays }
+leads_trans a b = record { goes = a.goes ∙ b.goes; stays = notes_trans a.stays b.stays }
 
 -- a program that is at its end, and one that asks for a server
 pub go-gives : {A : Type 0} (t : ℕ) (r : Result A Errno) (w : World) → go t (gives r) w ≡ record { world = w; rest = gives r }
@@ -77,7 +77,7 @@ pub does_err : {A B : Type 0} {t : ℕ} {p : Prog A} {s : Stop} {r : Result B St
 does_err {r = Ok b} k gone d = absurd gone.1
 does_err {r = Err e} k gone d = record { ends = rw gone.1 (err_ends _ _ k _ _ _ d) }
 
-by_reply : {A : Type 0} (t : ℕ) (c : Call) (read : Reply → Result A Errno) (w x : State) (got : Result A Errno) → read (reply_of w.world t c) ≡ got → x.world ≡ after w.world t c → Stays w x
+by_reply : {A : Type 0} (t : ℕ) (c : Call) (read : Reply → Result A Errno) (w x : State) (got : Result A Errno) → read (reply_of w.world t c) ≡ got → x.world ≡ after w.world t c → NotesWhatIsTouched w x
     → Does t (made c read) w (stopped got) x
 unfolding go made
 by_reply t c read w x (Ok a) same left stays = record { ends = record { goes = rw left (ap (λ r. go t (gives r) (after w.world t c)) same); stays = stays } }

@@ -10,7 +10,7 @@ use Rattle.hurd_machine.specs.World.{World}
 use Rattle.hurd_machine.specs.Sound.{Sound}
 use Rattle.hurd_laws.specs.Step.{reply_of, after}
 use Rattle.hurd_world.specs.Held.{Whole, state_of, world_of}
-use Rattle.hurd_world.specs.Noting.{State, Stays}
+use Rattle.hurd_world.specs.Noting.{State, NotesWhatIsTouched}
 use Rattle.hurd_script.specs.Commands.{CommandLine}
 use Rattle.hurd_shell.specs.declared.commands.Printed.{Printed}
 use Rattle.hurd_shell.specs.declared.fault.Stop.{Stop}
@@ -80,7 +80,7 @@ turned_sound c p w x (Err (Refused e)) turn d same s = stop_sound (go-gives _ _ 
 turned_sound c p w x (Err Memory) turn d same s = absurd (cc)
 
 -- and what is noted stays right
-turned_stays : (c : CommandLine) (p : Prog Printed) (w x : State) (r : Result Progress Stop) (turn : Turn) → Reaches c.task p w progress_on r x → Some turn ≡ turn_of c r → Stays w x
+turned_stays : (c : CommandLine) (p : Prog Printed) (w x : State) (r : Result Progress Stop) (turn : Turn) → Reaches c.task p w progress_on r x → Some turn ≡ turn_of c r → NotesWhatIsTouched w x
 turned_stays c p w x (Ok (Ended printed)) turn d same = d.reaches.stays
 turned_stays c p w x (Ok (progress.Waits waiting)) turn d same = d.reaches.stays
 turned_stays c p w x (Err (Refused e)) turn d same = d.reaches.stays
@@ -207,12 +207,12 @@ told_sound c p w x r (Ok turn) d same s = turned_sound c p w x r turn d same s
 told_sound c p w x r (Err e) d same s = tt
 
 pub told_stays : {E : Type 0} (c : CommandLine) (p : Prog Printed) (w x : State) (r : Result Progress Stop) (told : Result Turn E) → Reaches c.task p w progress_on r x
-    → IfOk told (λ turn. Some turn ≡ turn_of c r) → OnOk told (Stays w x)
+    → IfOk told (λ turn. Some turn ≡ turn_of c r) → OnOk told (NotesWhatIsTouched w x)
 told_stays c p w x r (Ok turn) d same = turned_stays c p w x r turn d same
 told_stays c p w x r (Err e) d same = tt
 
 -- and so it does where an answer was taken
-pub took_stays : {A : Type 0} {t : ℕ} {p : Prog A} {w x : State} (answer : Result A Errno) → Does t p w (stopped answer) x → Stays w x
+pub took_stays : {A : Type 0} {t : ℕ} {p : Prog A} {w x : State} (answer : Result A Errno) → Does t p w (stopped answer) x → NotesWhatIsTouched w x
 took_stays answer d = (does_leads answer d).stays
 
 -- what a session gives after a turn

@@ -6,7 +6,7 @@ use Rattle.hurd_trans_iface.specs.Nodes.{has_words}
 use Rattle.hurd_machine.specs.declared.call.Call.TheVariants.{PortDeallocate}
 use Rattle.hurd_machine.specs.declared.call.Setting.{Setting}
 use Rattle.hurd_world.specs.Noting.{State}
-use Rattle.hurd_world.proofs.NotingLaws.{stays_refl}
+use Rattle.hurd_world.proofs.NotingLaws.{notes_refl}
 use Rattle.hurd_script.specs.declared.command.Action.{Action}
 use Rattle.hurd_shell.specs.declared.commands.Printed.{Printed}
 use Rattle.hurd_shell.specs.declared.entries.EntryWork.{EntryWork}
@@ -84,21 +84,21 @@ pub opens_waits : (t : ℕ) (w : State) (words : List (List ℕ)) (o : Opening) 
     → Reaches t (bind (reached_on (reached.Waits words o)) (λ q. closing q (work_of deed q))) w progress_on
     (Ok (progress.Waits (record { words = words; stage = stage.Opens o deed }))) w
 unfolding bind tried
-opens_waits t w words o deed = record { reaches = record { goes = refl; stays = stays_refl w } }
+opens_waits t w words o deed = record { reaches = record { goes = refl; stays = notes_refl w } }
 
 -- the opening of a second directory waits for a server
 pub enters_waits : (t : ℕ) (w : State) (port : ℕ) (words : List (List ℕ)) (o : Opening) (name : List ℕ) (deed : EntryWork)
     → Reaches t (closing port (bind (reached_on (reached.Waits words o)) (λ q. closing q (entry_work_of deed port q name)))) w progress_on
     (Ok (progress.Waits (record { words = words; stage = stage.Enters port o name deed }))) w
 unfolding bind tried
-enters_waits t w port words o name deed = record { reaches = record { goes = refl; stays = stays_refl w } }
+enters_waits t w port words o name deed = record { reaches = record { goes = refl; stays = notes_refl w } }
 
 -- the setting of a translator waits for a server
 sets_waits : (t : ℕ) (w : State) (port : ℕ) (setting : Setting) (words : List (List ℕ)) (active : Bool) → active ≡ true
     → Reaches t (closing port (silent (setting_with active port setting words))) w progress_on
     (Ok (progress.Waits (record { words = words; stage = stage.Sets port setting }))) w
 unfolding bind tried
-sets_waits t w port setting words true waits = record { reaches = record { goes = refl; stays = stays_refl w } }
+sets_waits t w port setting words true waits = record { reaches = record { goes = refl; stays = notes_refl w } }
 sets_waits t w port setting words false waits = absurd (cc)
 
 -- a translator is set without a server

@@ -6,7 +6,7 @@ use Rattle.hurd_trans_iface.specs.Meaning.{Meaning}
 use Rattle.hurd_machine.specs.Calls.{Call, Reply}
 use Rattle.hurd_laws.specs.Step.{step}
 use Rattle.hurd_world.specs.Held.{Whole, state_of}
-use Rattle.hurd_world.specs.Noting.{State, Stays}
+use Rattle.hurd_world.specs.Noting.{State, NotesWhatIsTouched}
 use Rattle.hurd_shell.specs.declared.fault.Stop.{Stop}
 use Rattle.hurd_shell.specs.declared.fault.Stop.TheVariants.{Refused, Memory}
 use Rattle.hurd_shell.specs.declared.looking.Outcome.{Outcome}
@@ -20,7 +20,7 @@ use Rattle.hurd_shell.specs.Looking.{Opener, look, starting}
 -- a call of task t was told the machine's reply, and left its world; what is noted stays right
 pub record Stepped (w : State) (t : ℕ) (c : Call) (r : Reply) (x : State) : Type 0 where
   pub step : (r, x.world) ≡ step w.world t c
-  pub stays : Stays w x
+  pub stays : NotesWhatIsTouched w x
 
 -- what was read of a reply, as the code has it
 abbrev pub stopped : {A : Type 0} → Result A Errno → Result A Stop
@@ -30,7 +30,7 @@ stopped (Err e) = Err (Refused e)
 -- task t comes, by calls, from the program p in w to the program q in x; what is noted stays right
 pub record Leads {A : Type 0} (t : ℕ) (p : Prog A) (w : State) (q : Prog A) (x : State) : Type 0 where
   pub goes : go t p w.world ≡ go t q x.world
-  pub stays : Stays w x
+  pub stays : NotesWhatIsTouched w x
 
 -- where a program of task t ends: with what the code has, unless memory was refused
 abbrev pub Ends : {A : Type 0} → ℕ → Prog A → State → Result A Stop → State → Type 0

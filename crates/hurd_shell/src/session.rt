@@ -1,14 +1,15 @@
 //! A session.
-ghost use Rattle.std.specs.Prelude.{◌≡◌, true, false, None, Some, IfOk, IfErr, IfSome, OnOk, Ok, Err, if◌then◌else◌};
+ghost use Rattle.std.specs.Prelude.{◌≡◌, true, false, [], None, Some, IfOk, IfErr, IfSome, OnOk, Ok, Err, if◌then◌else◌};
 ghost use Rattle.std.specs.Option.{option_map};
 ghost use Rattle.hurd_creds.specs.declared.name.TaskId.{TaskId};
 ghost use Rattle.hurd_trans_iface.specs.Meaning.{Begins};
 ghost use Rattle.hurd_machine.specs.World as machine;
 ghost use Rattle.hurd_machine.specs.Sound.{Sound};
 ghost use Rattle.hurd_script.specs.Script.{bad, users_of};
+ghost use Rattle.hurd_touches.specs.declared.noted.Noted.{Noted};
 ghost use Rattle.hurd_world.specs.Boot.{boot_of};
 ghost use Rattle.hurd_world.specs.Held.{state_of, world_of};
-ghost use Rattle.hurd_world.specs.Noting.{Stays};
+ghost use Rattle.hurd_world.specs.Noting.{NotesWhatIsTouched};
 ghost use Rattle.hurd_shell.specs.Session.{Begun, BegunWith, waits_for, BeginFault, HangsTogether, NewFault, NotTaken, Takes, TakesUnlessFailed, Tells, command_on, has_failed, next_task};
 ghost use Rattle.hurd_shell.specs.Transcript.{Dialogue, part_by, part_of, played, tells};
 ghost use Rattle.hurd_shell.specs.Turns.{Stands, turn_on};
@@ -69,7 +70,7 @@ fn take_turn<S: Server>(
         → played command.now.task (command_on phase command.now) (world_of S.meaning world.old) (λ r y. tells (part_by command.now (part_of command.now r) y) (next y))
         ≡ turn_on command.now next turn (world_of S.meaning world.new)) }
     ensures sound { Sound (world_of S.meaning world.old) → OnOk result (Sound (world_of S.meaning world.new)) }
-    ensures noted { OnOk result (Stays (state_of S.meaning world.old) (state_of S.meaning world.new)) }
+    ensures noted { OnOk result (NotesWhatIsTouched (state_of S.meaning world.old) (state_of S.meaning world.new)) }
 {
     match phase {
         Phase::Between => told(alloc, command, begin(world, alloc, command)),
@@ -161,7 +162,7 @@ impl<S: Server> Session<S> {
     /// Notes from now on which parts calls touch.
     pub fn note(&mut self)
         ensures { (self.new.commands ≡ self.old.commands) × (self.new.given ≡ self.old.given) × (self.new.phase ≡ self.old.phase)
-            × (self.new.world.core ≡ self.old.world.core) }
+            × (self.new.world.core ≡ self.old.world.core) × (self.new.world.noted ≡ Noted.These []) }
     {
         self.world.note();
     }
@@ -198,7 +199,7 @@ impl<S: Server> Session<S> {
         ensures tells { has_failed self.old ≡ false → Tells S.meaning self.old result self.new }
         ensures sound { HangsTogether S.meaning self.old → HangsTogether S.meaning self.new }
         ensures stays { has_failed self.old ≡ true → (result ≡ Err SessionFault.Memory) × (self.new ≡ self.old) }
-        ensures noted { OnOk result (Stays (state_of S.meaning self.old.world) (state_of S.meaning self.new.world)) }
+        ensures noted { OnOk result (NotesWhatIsTouched (state_of S.meaning self.old.world) (state_of S.meaning self.new.world)) }
     {
         if self.has_failed() {
             return Err(SessionFault::Memory);
@@ -242,7 +243,7 @@ impl<S: Server> Session<S> {
         ensures err { IfErr result (λ e. NotTaken self.old e.0 self.new × (e.1 ≡ server)) }
         ensures sound { HangsTogether S.meaning self.old → HangsTogether S.meaning self.new }
         ensures stays { has_failed self.old ≡ true → (result ≡ Err (SupplyFault.Memory, server)) × (self.new ≡ self.old) }
-        ensures noted { OnOk result (Stays (state_of S.meaning self.old.world) (state_of S.meaning self.new.world)) }
+        ensures noted { OnOk result (NotesWhatIsTouched (state_of S.meaning self.old.world) (state_of S.meaning self.new.world)) }
     {
         if !self.waits() {
             return Err((self.not_taken(), server));
@@ -269,7 +270,7 @@ impl<S: Server> Session<S> {
         ensures err { IfErr result (λ e. NotTaken self.old e self.new) }
         ensures sound { HangsTogether S.meaning self.old → HangsTogether S.meaning self.new }
         ensures stays { has_failed self.old ≡ true → (result ≡ Err SupplyFault.Memory) × (self.new ≡ self.old) }
-        ensures noted { OnOk result (Stays (state_of S.meaning self.old.world) (state_of S.meaning self.new.world)) }
+        ensures noted { OnOk result (NotesWhatIsTouched (state_of S.meaning self.old.world) (state_of S.meaning self.new.world)) }
     {
         if !self.waits() {
             return Err(self.not_taken());
@@ -292,7 +293,7 @@ impl<S: Server> Session<S> {
         requires begins { IfSome server (λ s. Begins (S.meaning s)) }
         requires waits { waits_for self.old ≡ true }
         ensures takes { TakesUnlessFailed S.meaning self.old (option_map S.meaning server) self.new }
-        ensures noted { has_failed self.new ≡ false → Stays (state_of S.meaning self.old.world) (state_of S.meaning self.new.world) }
+        ensures noted { has_failed self.new ≡ false → NotesWhatIsTouched (state_of S.meaning self.old.world) (state_of S.meaning self.new.world) }
     {
         match server {
             Some(server) => {

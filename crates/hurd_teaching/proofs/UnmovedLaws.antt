@@ -14,7 +14,7 @@ use Rattle.hurd_touches.specs.Touched.{IsNoted, listed}
 use Rattle.hurd_touches.specs.declared.noted.Noted.{Noted}
 use Rattle.hurd_touches.specs.declared.noted.Noted.TheVariants.{All, These}
 use Rattle.hurd_touches.proofs.UnnoticedLaws.{noted_nothing}
-use Rattle.hurd_world.specs.Noting.{Stays}
+use Rattle.hurd_world.specs.Noting.{NotesWhatIsTouched}
 use Rattle.hurd_views.specs.Views.{Views, tells_in}
 use Rattle.hurd_views.specs.declared.view.View.{View}
 use Rattle.hurd_views.proofs.StayLaws.{views_stay}
@@ -48,7 +48,7 @@ missed tasks w v All views is p at sees = absurd (true≢false (sym is))
 missed tasks w v (These parts) views is p at sees = none_seen tasks w v parts views (is_false (list_any (tells_in v) parts) is) p at sees
 
 -- what some tasks saw is what they see, where nothing of it was touched
-pub still_sees : (tasks : List TaskId) (w x : World) (start noted : Noted) (seen : Option View) → Sound w → Stays (record { world = w; noted = start }) (record { world = x; noted = noted })
+pub still_sees : (tasks : List TaskId) (w x : World) (start noted : Noted) (seen : Option View) → Sound w → NotesWhatIsTouched (record { world = w; noted = start }) (record { world = x; noted = noted })
     → Sees tasks w seen → misses (listed noted) seen ≡ true → Sees tasks x seen
 still_sees tasks w x start noted seen sound stays (v, same, views) is =
     let here : misses (listed noted) (Some v) ≡ true = sym (ap (misses (listed noted)) same) ∙ is in

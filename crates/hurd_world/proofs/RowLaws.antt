@@ -1,25 +1,23 @@
 -- What a row answers is what its call owes.
 use Rattle.std.specs.Prelude.{IfErr, IfSome, IsNone}
 use Rattle.std.specs.Option.{option_map}
-use Rattle.std.proofs.Common.{◌≡◌, ◌⊎◌, inl, inr, ℕ, true, false, true≢false, List, [], ◌∷◌, Result, Ok, Err, Option, Some, None, refl, ap, sym, ◌∙◌}
-use Rattle.hurd_machine.proofs.Common.{Call, ENOMEM, Errno, Meaning, Mode, OpenFlags, Plan, Planned, Reply, World, after_plan, box_in, call_by, handing_back, is_refused, refusal, reply_by, told}
+use Rattle.std.proofs.Common.{◌≡◌, ◌⊎◌, inl, inr, ℕ, false, List, Result, Ok, Err, Option, Some, None, refl, ap, sym, ◌∙◌}
+use Rattle.hurd_machine.proofs.Common.{Call, Errno, Meaning, Mode, OpenFlags, Plan, Reply, World, after_plan, call_by, handing_back, is_refused, refusal, reply_by, told}
 use Rattle.hurd_trans_iface.specs.Meaning.{Begins}
 use Rattle.hurd_machine.specs.declared.call.Call as code
-use Rattle.hurd_machine.specs.declared.call.Call.TheVariants.{DirLookup, FileSetTranslator, FsysSetOptions, FsysStartup}
+use Rattle.hurd_machine.specs.declared.call.Call.TheVariants.{DirLookup, FileSetTranslator}
 use Rattle.hurd_machine.specs.declared.call.Reply as code_reply
 use Rattle.hurd_machine.specs.declared.call.Reply.TheVariants.{Done, Found, Port, Data, Count, Names, Words, Stat, Modes, Same, Refused, Back}
 use Rattle.hurd_machine.specs.declared.call.Lookup as code_lookup
 use Rattle.hurd_machine.specs.declared.call.Setting.{Setting}
 use Rattle.hurd_machine.specs.Plan.{Follows}
 use Rattle.hurd_core.specs.Core.{without_box}
-use Rattle.hurd_fsys.specs.Fsys.{plan_set_options}
-use Rattle.hurd_lookup.specs.Lacking.{PlannedOr, TriedOr}
+use Rattle.hurd_lookup.specs.Lacking.{PlannedOr}
 use Rattle.hurd_lookup.specs.Seeking.{LookupLacks, plan_lookup}
 use Rattle.hurd_fsys.specs.Setting.{SetLacks, plan_set_translator}
-use Rattle.hurd_fsys.specs.Starting.{StartLacks, plan_startup}
 use Rattle.hurd_laws.specs.Called.{Called}
-use Rattle.hurd_laws.specs.Step.{NeedsNone, after, plan, reply_of, takes_memory}
-use Rattle.hurd_world.specs.Held.{ComesBack, set_told, start_told, told_of}
+use Rattle.hurd_laws.specs.Step.{after, reply_of}
+use Rattle.hurd_world.specs.Held.{ComesBack, set_told, told_of}
 
 -- a call that made its step
 stepped : (w x : World) (t : ℕ) (c : Call) (reply : Reply) → reply ≡ reply_of w t c → x ≡ after w t c → Called w t c reply x

@@ -10,6 +10,6 @@ pub record State : Type 0 where
   pub noted : Noted
 
 -- from one to another all that was done was noted: a sound world stays sound, and whoever saw none of the noted parts in world u has the view that it had there still
-pub record Stays (x y : State) : Type 0 where
+pub record NotesWhatIsTouched (x y : State) : Type 0 where
   pub sound : Sound x.world → Sound y.world
   pub unnoticed : (u : World) → Sound x.world → Unnoticed x.noted u x.world → Unnoticed y.noted u y.world

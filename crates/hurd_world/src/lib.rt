@@ -4,6 +4,9 @@
 //! calls. Replies and worlds are those of the written machine (`hurd_laws/specs/Step`), and what a set of tasks is told
 //! depends only on what it sees (`docs/ISOLATION.md`).
 //!
+//! From `World::note` on a world notes which parts its calls touch, and `World::noted` tells these: whoever saw none of them then has
+//! the same view still.
+//!
 //! It keeps no history and prints nothing: scripts are `hurd_shell`'s.
 #![tactic(auto)]
 

@@ -1,5 +1,5 @@
 //! The world, and the calls of its tasks.
-ghost use Rattle.std.specs.Prelude.{◌≡◌, ◌⊎◌, IfOk, IfErr, IsOk, map, Ok, Err};
+ghost use Rattle.std.specs.Prelude.{◌≡◌, ◌⊎◌, [], IfOk, IfErr, IsOk, map, Ok, Err};
 ghost use Rattle.hurd_trans_iface.specs.Meaning.{Begins};
 ghost use Rattle.hurd_nodes.specs.Shown.{HideNothing};
 ghost use Rattle.hurd_machine.specs.Calls.{BringsBegun, call_by, reply_by};
@@ -10,7 +10,7 @@ ghost use Rattle.hurd_laws.specs.Served.{Served, ComparedRun, IsolatedRun, kept}
 ghost use Rattle.hurd_names.specs.Served.{ComparedByLooks};
 ghost use Rattle.hurd_laws.specs.Spared.{SparesAll};
 ghost use Rattle.hurd_world.specs.Held.{AllBegun, AllComeBack, ComesBack, made_by, state_of, world_of};
-ghost use Rattle.hurd_world.specs.Noting.{Stays};
+ghost use Rattle.hurd_world.specs.Noting.{NotesWhatIsTouched};
 ghost use Rattle.hurd_world.specs.Boot.{boot_of, first_world};
 
 use crate::boot::{first_ports, is_aimed};
@@ -23,7 +23,8 @@ use hurd_trans_iface::Server;
 use std::alloc::{AllocError, Global};
 use std::marker::Model;
 
-/// Tasks with their ports over a tree of nodes (GNU Hurd Reference Manual).
+/// Tasks with their ports over a tree of nodes (GNU Hurd Reference Manual), and the parts that calls touched since these were to be
+/// noted: at first any.
 #[derive(Drop)]
 pub struct World<S: Server = Box<dyn Server>> {
     core: Core<S>,
@@ -81,7 +82,8 @@ impl<S: Server> World<S> {
 
     /// Notes from now on which parts calls touch.
     pub fn note(&mut self)
-        ensures { self.new.core ≡ self.old.core }
+        ensures core { self.new.core ≡ self.old.core }
+        ensures noted { self.new.noted ≡ Noted.These [] }
     {
         self.noted = Noted::none();
     }
@@ -97,6 +99,8 @@ impl<S: Server> World<S> {
     /// a refused `fsys_startup` alone gives up what the task was to start, but for want of memory. Nothing changes that a set of tasks
     /// in which the caller is may not change, but that what nobody sees any more goes, and that another task is sent a right. No server has a node beside those of the world.
     ///
+    /// The parts that the call touches are noted before it. Whoever saw none of the noted parts when that began has the same view still.
+    ///
     /// Errors: `ESRCH` where there is no such task, then those of the call, in its order. `ENOMEM` where a call that takes
     /// memory, and needs some as the world stands, isn't refused, and finds none.
     pub fn call(&mut self, alloc: Global, task: TaskId, call: Call<S>) -> Reply<S>
@@ -106,7 +110,7 @@ impl<S: Server> World<S> {
         ensures sound { Sound (world_of S.meaning self.old) → Sound (world_of S.meaning self.new) }
         ensures integrity { Sound (world_of S.meaning self.old) → KeepsIntegrity (world_of S.meaning self.old) task.0 (world_of S.meaning self.new) }
         ensures hidden { HideNothing S.meaning self.new.core.nodes }
-        ensures noted { Stays (state_of S.meaning self.old) (state_of S.meaning self.new) }
+        ensures noted { NotesWhatIsTouched (state_of S.meaning self.old) (state_of S.meaning self.new) }
     {
         self.noted.note(&self.core, task, &call);
         let reply = dispatch(&mut self.core, alloc, task, call);

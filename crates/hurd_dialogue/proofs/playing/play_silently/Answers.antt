@@ -1,4 +1,4 @@
-use Rattle.std.proofs.Common.{◌∙◌, arith, refl}
+use Rattle.std.proofs.Common.{◌∙◌, arith}
 use Rattle.hurd_dialogue.proofs.EndLaws.{at_end, end_stays}
 use Rattle.hurd_dialogue.proofs.Printed.{one_less}
 use Rattle.hurd_dialogue.proofs.playing.play_silently.Goals as goal

@@ -1,5 +1,5 @@
 use Rattle.hurd_shell.specs.Session.{has_failed}
-use Rattle.hurd_world.proofs.NotingLaws.{stays_trans}
+use Rattle.hurd_world.proofs.NotingLaws.{notes_trans}
 use Rattle.hurd_shell.specs.declared.fault.SessionFault.TheVariants.{Memory}
 use Rattle.hurd_shell.proofs.GivenLaws.{was_fine}
 use Rattle.hurd_run.proofs.AskedLaws.{asked_end, asked_fewer, asked_more, asked_part, asked_waits, asking_none, made_begins}
@@ -41,9 +41,9 @@ asked-smaller c =
 pub returns-in-Ok-Output-clause-noted : goal.returns-in-Ok-Output-clause-noted
 returns-in-Ok-Output-clause-noted c =
     let fine = was_fine (has_failed c.asked.session) c.in-Ok-Output.field-0 Memory c.in-Ok-Output.ensures.stays in
-    stays_trans (c.asked.invariant.noted fine) c.in-Ok-Output.ensures.noted
+    notes_trans (c.asked.invariant.noted fine) c.in-Ok-Output.ensures.noted
 
 pub returns-in-Ok-Done-clause-noted : goal.returns-in-Ok-Done-clause-noted
 returns-in-Ok-Done-clause-noted c =
     let fine = was_fine (has_failed c.asked.session) c.in-Ok-Done.field-0 Memory c.in-Ok-Done.ensures.stays in
-    stays_trans (c.asked.invariant.noted fine) c.in-Ok-Done.ensures.noted
+    notes_trans (c.asked.invariant.noted fine) c.in-Ok-Done.ensures.noted
