@@ -1,10 +1,12 @@
 //! Crossing the servers that are active on nodes.
-ghost use Rattle.std.specs.Prelude.{◌≡◌, ◌&&◌};
+ghost use Rattle.std.specs.Prelude.{◌≡◌, ◌&&◌, option_and_then};
+ghost use Rattle.std.specs.Option.{option_map};
 ghost use Rattle.hurd_creds.specs.Bits.{NOLINK, asks};
-ghost use Rattle.hurd_machine.specs.World.{World};
+ghost use Rattle.hurd_nodes.specs.Shown.{ServerInfo};
+ghost use Rattle.hurd_machine.specs.World.{World, server_at};
 ghost use Rattle.hurd_core.specs.Core.{world_of};
 ghost use Rattle.hurd_lookup.specs.Path.{names_in};
-ghost use Rattle.hurd_lookup.specs.Lookup.{Authority as AuthorityAt, cross, crossed_at, enter, follow, hold_on, is_last, to_cross};
+ghost use Rattle.hurd_lookup.specs.Lookup.{Authority as AuthorityAt, cross, enter, follow, hold_on, is_last, to_cross};
 ghost use Rattle.hurd_lookup.specs.Ends.{CanGo, Finds, IsHere, Meeting, authority_of, place_of, text_at};
 
 use crate::authority::Authority;
@@ -14,7 +16,7 @@ use crate::rest::{fits, is_last};
 use crate::retry::{Onward, Retry, text_at};
 use crate::walk::Place;
 use hurd_core::Core;
-use hurd_creds::{Errno, NodeName, OpenFlags};
+use hurd_creds::{Errno, NodeName, OpenFlags, ServerName};
 use hurd_ports::Parent;
 use hurd_trans_iface::{Crossing, Server};
 
@@ -29,27 +31,16 @@ pub(crate) enum Met {
     Waiting,
 }
 
-/// What there is to cross at a node: the server that is active there, or else the translator that waits there, if one does.
-/// Where a server is active, the node isn't asked what it is.
+/// The root of a server, if there is one and it is there.
 #[inline(always)]
-fn crossed_at<S: Server>(core: &Core<S>, node: NodeName) -> Met
-    ensures { let w = world_of S.meaning core.now in Meeting w node (crossed_at w node) result }
+fn root_by<S: Server>(core: &Core<S>, server: Option<ServerName>) -> Option<NodeName>
+    ensures { let w = world_of S.meaning core.now in result ≡ option_and_then (λ s. option_map (λ (i : ServerInfo). i.root) (server_at w s)) server }
 {
-    if let Some(server) = core.active(node) {
-        return match core.root_of(server) {
-            Some(root) => Met::Active(root),
-            None => Met::Node(Here::at(core, node)),
-        };
-    }
-    let here = Here::at(core, node);
-    if here.has_words() {
-        Met::Waiting
-    } else {
-        Met::Node(here)
-    }
+    core.root_of(server?)
 }
 
-/// What is to be crossed at a node, before what is left of the path: nothing at the last node with `NOTRANS`.
+/// What is to be crossed at a node, before what is left of the path: nothing at the last node with `NOTRANS`; else the server that is active there, or the
+/// translator that waits there, if one does. Where a server is active, the node isn't asked what it is.
 #[inline(always)]
 pub(crate) fn to_cross<S: Server>(
     core: &Core<S>,
@@ -59,10 +50,18 @@ pub(crate) fn to_cross<S: Server>(
 ) -> Met
     ensures { let w = world_of S.meaning core.now in Meeting w node (to_cross w request node (names_in rest.now)) result }
 {
-    if is_last(rest) && request.flags.asks(OpenFlags::NOTRANS) {
-        Met::Node(Here::at(core, node))
+    let is_held = is_last(rest) && request.flags.asks(OpenFlags::NOTRANS);
+    let active = core.active(node);
+    if !is_held {
+        if let Some(root) = root_by(core, active) {
+            return Met::Active(root);
+        }
+    }
+    let here = Here::at(core, node);
+    if !is_held && active.is_none() && here.has_words() {
+        Met::Waiting
     } else {
-        crossed_at(core, node)
+        Met::Node(here)
     }
 }
 
