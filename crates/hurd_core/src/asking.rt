@@ -191,6 +191,16 @@ impl<S: Server> Core<S> {
         self.nodes.attrs(node)
     }
 
+    /// The server that is active on a node, if one is, and the node's attributes, if it is there: it is looked up once.
+    #[inline(always)]
+    pub fn met(&self, node: NodeName) -> (Option<ServerName>, Option<Attrs>)
+        ensures active { result.0 ≡ active_at (world_of S.meaning self.now) node }
+        ensures all { result.1 ≡ option_map attrs_of (fin.get (world_of S.meaning self.now).nodes node) }
+        ensures header { let w = world_of S.meaning self.now in option_map (header_with (words_at w node)) result.1 ≡ header_at w node }
+    {
+        self.nodes.met(node)
+    }
+
     /// The words of the passive translator of a node, if the node is there and has any.
     pub fn passive(&self, node: NodeName) -> Option<&Words>
         ensures { option_copied result ≡ passive_of (node_at (world_of S.meaning self.now) node) }

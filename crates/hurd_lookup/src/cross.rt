@@ -40,7 +40,7 @@ fn root_by<S: Server>(core: &Core<S>, server: Option<ServerName>) -> Option<Node
 }
 
 /// What is to be crossed at a node, before what is left of the path: nothing at the last node with `NOTRANS`; else the server that is active there, or the
-/// translator that waits there, if one does. Where a server is active, the node isn't asked what it is.
+/// translator that waits there, if one does.
 #[inline(always)]
 pub(crate) fn to_cross<S: Server>(
     core: &Core<S>,
@@ -51,13 +51,12 @@ pub(crate) fn to_cross<S: Server>(
     ensures { let w = world_of S.meaning core.now in Meeting w node (to_cross w request node (names_in rest.now)) result }
 {
     let is_held = is_last(rest) && request.flags.asks(OpenFlags::NOTRANS);
-    let active = core.active(node);
+    let (active, here) = Here::met(core, node);
     if !is_held {
         if let Some(root) = root_by(core, active) {
             return Met::Active(root);
         }
     }
-    let here = Here::at(core, node);
     if !is_held && active.is_none() && here.has_words() {
         Met::Waiting
     } else {

@@ -16,7 +16,9 @@ ghost use Rattle.hurd_nodes.specs.Held.{active_in, box_by, home_in, mean};
 use crate::aims::Aims;
 use crate::asking::{has_limit, has_tree, told_text, total_in};
 use crate::forgetting::are_kin;
-use crate::search::{home_of, place_of_seat, place_of_server, put_seat, put_site};
+use crate::search::{
+    home_of, place_of_home, place_of_seat, place_of_server, put_seat, put_site, servers_at,
+};
 use crate::seat::{Seat, Seats, Sites};
 use bitflags::Flags;
 use hurd_creds::{Attrs, Errno, Ids, Mode, Name, NodeName, ServerName, TaskId};
@@ -93,15 +95,38 @@ impl<S: Server> Nodes<S> {
         })
     }
 
-    /// The box that serves a node.
+    /// The box of a server, if one is given that is there.
+    #[inline(always)]
     #[tactic(auto, using(crate::proofs::SeatLaws::boxes))]
+    fn box_of(&self, home: Option<ServerName>) -> Option<&S>
+        ensures { option_map S.meaning (option_copied result) ≡ box_by (mean S.meaning self.now.seats) home }
+    {
+        match place_of_home(&self.seats, home) {
+            Some(i) => Some(&self.seats[i].server),
+            None => None,
+        }
+    }
+
+    /// The box that serves a node.
     #[inline(always)]
     pub(crate) fn server_of(&self, node: NodeName) -> Option<&S>
         ensures { option_map S.meaning (option_copied result) ≡ box_by (mean S.meaning self.now.seats) (home_in self.now.sites node) }
     {
-        match place_of_server(&self.sites, &self.seats, node) {
-            Some(i) => Some(&self.seats[i].server),
-            None => None,
+        self.box_of(home_of(&self.sites, node))
+    }
+
+    /// The server that is active on a node, if one is, and the node's attributes, if it is there: it is looked up once.
+    #[inline(always)]
+    #[tactic(auto, using(crate::proofs::ShownLaws::by_box))]
+    pub fn met(&self, node: NodeName) -> (Option<ServerName>, Option<Attrs>)
+        ensures active { result.0 ≡ active_in (shown S.meaning self.now).sites node }
+        ensures all { result.1 ≡ option_map attrs_of (fin.get (shown S.meaning self.now).nodes node) }
+        ensures header { option_map header_in result.1 ≡ option_map told_header (header_of (shown S.meaning self.now).nodes node) }
+    {
+        let (home, active) = servers_at(&self.sites, node);
+        match self.box_of(home) {
+            Some(server) => (active, server.attrs(node)),
+            None => (active, None),
         }
     }
 

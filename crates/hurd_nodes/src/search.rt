@@ -25,6 +25,19 @@ pub(crate) fn home_of(sites: &Sites, node: NodeName) -> Option<ServerName>
     Some(sites.get(&node)?.home)
 }
 
+/// The server of a node, and the one that is active on it: the node is looked up once.
+#[inline(always)]
+#[tactic(auto, using(crate::proofs::HomeLaws::by_map))]
+pub(crate) fn servers_at(sites: &Sites, node: NodeName) -> (Option<ServerName>, Option<ServerName>)
+    ensures home { result.0 ≡ home_in (sites_of sites.now.entries) node }
+    ensures active { result.1 ≡ active_in (sites_of sites.now.entries) node }
+{
+    match sites.get(&node) {
+        Some(site) => (Some(site.home), site.active),
+        None => (None, None),
+    }
+}
+
 /// Whether the first seat is that of this server.
 #[inline(always)]
 fn is_first<S>(seats: &Seats<S>, name: ServerName) -> bool
@@ -48,16 +61,25 @@ pub(crate) fn place_of_seat<S>(seats: &Seats<S>, name: ServerName) -> Option<usi
     seats.get_index_of(&name)
 }
 
+/// The index of the seat of a server, if one is given.
+#[inline(always)]
+pub(crate) fn place_of_home<S>(seats: &Seats<S>, home: Option<ServerName>) -> Option<usize>
+    ensures is { result ≡ place_in seats.now.entries home }
+    ensures below { IfSome result (λ i. i < length seats.now.entries) }
+{
+    match home {
+        Some(name) => place_of_seat(seats, name),
+        None => None,
+    }
+}
+
 /// The index of the seat of a node's server.
 #[inline(always)]
 pub(crate) fn place_of_server<S>(sites: &Sites, seats: &Seats<S>, node: NodeName) -> Option<usize>
     ensures is { result ≡ place_in seats.now.entries (home_in (sites_of sites.now.entries) node) }
     ensures below { IfSome result (λ i. i < length seats.now.entries) }
 {
-    match home_of(sites, node) {
-        Some(name) => place_of_seat(seats, name),
-        None => None,
-    }
+    place_of_home(seats, home_of(sites, node))
 }
 
 /// Gives a node a site with this server, in the place of the one that it has. There is room for one more.
