@@ -1,5 +1,5 @@
 -- Whether a directory is another, or below it.
-use Rattle.std.proofs.Common.{◌≡◌, ◌⊎◌, ◌∙◌, ℕ, zero, suc, ◌+◌, ◌-◌, ◌<◌, ◌≤◌, ◌||◌, Bool, true, false, true≢false, Option, Some, None, sym, refl, ap, inl, inr, arith}
+use Rattle.std.proofs.Common.{◌≡◌, ◌⊎◌, ◌∙◌, ℕ, zero, suc, ◌-◌, ◌<◌, ◌||◌, Bool, true, false, true≢false, Option, Some, None, sym, refl, ap, inl, inr, arith}
 use Rattle.std.proofs.lemmas.Bool.{or_parts}
 use Rattle.hurd_machine.proofs.Common.{Above, AtRoot, Header, LeadsUp, Name, Seen, World, header_at, same_name}
 use Rattle.hurd_creds.proofs.NameLaws.{apart_if_not_same}
@@ -67,29 +67,15 @@ module _ (w x : World) (fewer : (d : Name) → (parent_in (header_at x d) ≡ pa
   unfolding is_inside
   inside_fewer d out = met_fewer 18446744073709551615 d out
 
--- one step more, of so many
+-- one step more, of so many; and where none is left
 
 module _ (w : World) (n : Name) where
-  met_next : (k : ℕ) (d : Name) → met_within (suc k) w n d ≡ (same_name d n || above (met_within k w n) (parent_in (header_at w d)))
+  pub climb_step : (k : ℕ) (d : Name) → 0 < k → met_within k w n d ≡ (same_name d n || above (met_within (k - 1) w n) (parent_in (header_at w d)))
   unfolding met_within
-  met_next k d = refl
+  climb_step zero d low = absurd (omega arith)
+  climb_step (suc k) d low = let e : k ≡ suc k - 1 = omega arith in ap (λ j. same_name d n || above (met_within j w n) (parent_in (header_at w d))) e
 
-  pub climb_step : (top i : ℕ) (d : Name) → i < top → met_within (top - i) w n d ≡ (same_name d n || above (met_within (top - (i + 1)) w n) (parent_in (header_at w d)))
-  climb_step top i d low = let e : top - i ≡ suc (top - (i + 1)) = omega arith in ap (λ k. met_within k w n d) e ∙ met_next (top - (i + 1)) d
-
-  pub climb_begin : (d : Name) → met_within 18446744073709551615 w n d ≡ is_inside w n d
-  unfolding is_inside
-  climb_begin d = refl
-
-  met_none : (d : Name) → met_within zero w n d ≡ true
+  pub climb_end : (k : ℕ) (d : Name) → k ≡ 0 → met_within k w n d ≡ true
   unfolding met_within
-  met_none d = refl
-
-  pub climb_end : (top i : ℕ) (d : Name) → top ≤ i → met_within (top - i) w n d ≡ true
-  climb_end top i d high = let e : top - i ≡ 0 = omega arith in ap (λ k. met_within k w n d) e ∙ met_none d
-
-  pub climb_found : (top i : ℕ) (d : Name) → i < top → same_name d n ≡ true → met_within (top - i) w n d ≡ true
-  climb_found top i d low same = climb_step top i d low ∙ ap (λ b. b || above (met_within (top - (i + 1)) w n) (parent_in (header_at w d))) same
-
-  pub climb_on : (top i : ℕ) (d : Name) (o : Option Name) → i < top → same_name d n ≡ false → parent_in (header_at w d) ≡ o → met_within (top - i) w n d ≡ above (met_within (top - (i + 1)) w n) o
-  climb_on top i d o low apart up = climb_step top i d low ∙ ap (λ b. b || above (met_within (top - (i + 1)) w n) (parent_in (header_at w d))) apart ∙ ap (above (met_within (top - (i + 1)) w n)) up
+  climb_end zero d none = refl
+  climb_end (suc k) d none = absurd (omega arith)

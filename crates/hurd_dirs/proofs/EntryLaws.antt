@@ -1,9 +1,8 @@
 -- What is asked of names and directories: the same in worlds that agree, and what an answer shows.
 use Rattle.std.proofs.Common.{◌≡◌, ℕ, Bool, true, not, List, Some, refl}
-use Rattle.std.specs.Prelude.{Ok, nat_le, length}
+use Rattle.std.specs.Prelude.{Ok}
 use Rattle.std.proofs.lemmas.Bool.{and_parts}
-use Rattle.hurd_machine.proofs.Common.{Allowed, BodyOf, ByParent, Child, Coherent, Could, Dir, EACCES, EINVAL, ENAMETOOLONG, ENOENT, ENOTDIR, EROFS, EmptyOf, Exec, GidOfRight, Header, Holds, Io, IoRight, Kind, LeadsUp, Linked, Name, Named, Seen, Sees, Taken, ToSearch, UidOfRight, Want, World, Write, bare, body_at, entry_of, header_at, info_at, is_dir, is_removed, may, port_asks, ports_of, tree_by}
-use Rattle.hurd_creds.specs.Limits.{most_name}
+use Rattle.hurd_machine.proofs.Common.{Allowed, BodyOf, ByParent, Child, Coherent, Could, Dir, EACCES, ENOENT, ENOTDIR, EROFS, EmptyOf, Exec, GidOfRight, Header, Holds, Io, IoRight, Kind, LeadsUp, Linked, Name, Named, Seen, Sees, Taken, ToSearch, UidOfRight, Want, World, Write, bare, body_at, entry_of, header_at, info_at, is_dir, is_removed, may, port_asks, ports_of, tree_by}
 use Rattle.hurd_ports.specs.Tables.{right_of}
 use Rattle.hurd_machine.specs.World.{nodes_of}
 use Rattle.hurd_machine.specs.Sight.{Held}
@@ -11,12 +10,12 @@ use Rattle.hurd_machine.proofs.Coherence.{entry_lists}
 use Rattle.hurd_machine.proofs.Links.{leads_unless}
 use Rattle.hurd_machine.proofs.Views.{Agree}
 use Rattle.hurd_machine.proofs.Asks.{IsPlain, IsNamed, is_named, port_same, port_seen, port_plain, info_alike, is_root_same, holds_right, first_ok, given_ok, first_same, given_same, first_plain, given_plain, ok_plain}
-use Rattle.hurd_dirs.specs.Entry.{is_name, name_asks, tree_asks, may_change, dir_asks, entry_asks}
+use Rattle.hurd_dirs.specs.Entry.{name_asks, tree_asks, may_change, dir_asks, entry_asks}
 
 -- names
 
 pub name_plain : (name : List ℕ) → IsPlain (name_asks name)
-name_plain name = given_plain EINVAL (is_name name) _ refl (λ n. given_plain ENAMETOOLONG (nat_le (length name) most_name) _ refl (λ l. ok_plain tt))
+name_plain name = search (given_plain, ok_plain)
 
 -- directories of a tree
 
@@ -55,9 +54,7 @@ dir_same {S} {v} {w} agree a seen =
     given_same _ (not (is_removed v a.right.node a.header)) (not (is_removed w a.right.node a.header)) _ _ (rw (is_root_same agree a.right.node seen) refl) (λ here. refl)))
 
 pub dir_plain : (w : World) (a : Named) → IsPlain (dir_asks w a)
-dir_plain w a =
-    first_plain _ _ (given_plain _ _ _ refl (λ dir. given_plain _ _ _ refl (λ tree. ok_plain tt))) (λ u is.
-    given_plain _ _ _ refl (λ m. given_plain _ _ _ refl (λ here. ok_plain tt)))
+dir_plain w a = search (first_plain, given_plain, ok_plain) depth 12
 
 -- a port on such a directory
 
@@ -108,13 +105,7 @@ pub entry_seen : {S : ℕ → Bool} {v : World} (t : ℕ) → S t ≡ true → (
 entry_seen t ours p a e = entries_seen t ours p a e.is_named e.dir.opened
 
 pub entry_same : {S : ℕ → Bool} {v w : World} → Agree S v w → (t : ℕ) → S t ≡ true → (p : ℕ) (name : List ℕ) → entry_asks w t p name ≡ entry_asks v t p name
-entry_same a t ours p name =
-    first_same _ _ _ _ (port_same a t ours p) (λ n is.
-    first_same _ _ _ _ refl (λ u good.
-    first_same _ _ _ _ (dir_same a n (port_seen t ours p n is)) (λ d opened. refl)))
+entry_same {S} {v} a t ours p name = search (first_same, port_same a t ours, dir_same a, port_seen {S = S} {v = v} t ours p) depth 12
 
 pub entry_plain : (w : World) (t p : ℕ) (name : List ℕ) → IsPlain (entry_asks w t p name)
-entry_plain w t p name =
-    first_plain _ _ (port_plain w t p) (λ n is.
-    first_plain _ _ (name_plain name) (λ u good.
-    first_plain _ _ (dir_plain w n) (λ d opened. ok_plain n)))
+entry_plain w t p name = search (first_plain, port_plain, name_plain, dir_plain, ok_plain) depth 12

@@ -1,20 +1,18 @@
 -- The laws of making files that no entry names.
 use Rattle.std.proofs.Common.{◌≡◌, ℕ, Bool, true, Some, None, refl, sym, subst}
-use Rattle.std.specs.Prelude.{Result, Ok, Err}
-use Rattle.hurd_machine.proofs.Common.{BodyOf, EACCES, EDIED, ENOMEM, EOVERFLOW, ESRCH, Errno, File, IsFilled, Mode, Name, Named, Node, OfNode, OpenFlags, Planned, Sees, ServerInfo, Task, World, has_room, home_at, keeps_tree, least_uid, makes_at, named_by, new_file, open_modes, port_asks, server_at, task_at}
+use Rattle.std.specs.Prelude.{Ok}
+use Rattle.hurd_machine.proofs.Common.{BodyOf, EACCES, EDIED, EOVERFLOW, ESRCH, File, IsFilled, Mode, Name, Named, Node, OfNode, OpenFlags, Sees, ServerInfo, Task, World, has_room, home_at, keeps_tree, least_uid, makes_at, named_by, new_file, open_modes, port_asks, server_at, task_at}
 use Rattle.hurd_trans_iface.proofs.BodyLaws.{tree_has, tree_holds}
 use Rattle.hurd_trans_iface.proofs.Goods.{good}
-use Rattle.hurd_machine.specs.declared.call.Reply.TheVariants.{Port}
 use Rattle.hurd_machine.proofs.Views.{Agree, same_tasks, home_same}
 use Rattle.hurd_machine.proofs.Asks.{IsPlain, is_named, port_same, port_seen, port_plain, makes_same, makes_plain, on_ok, given_ok, first_ok, on_same, first_same, on_plain, given_plain, first_plain, ok_plain, answered_same, answered_plain, done_plain}
 use Rattle.hurd_machine.proofs.Makes.{MayMake, may_make}
 use Rattle.hurd_machine.proofs.Nameless.{IsNameless, nameless_whole}
 use Rattle.hurd_machine.proofs.CallLaws.{CallLaws, answered_piece}
-use Rattle.hurd_core.specs.Core.{Does, NewNodeAt, room_asks, making_asks, making_open, asked_only}
+use Rattle.hurd_core.specs.Core.{NewNodeAt, room_asks, making_asks}
 use Rattle.hurd_core.proofs.PortWays.{ways_named, ways_seen}
-use Rattle.hurd_core.proofs.PlanLaws.{only-refused, only-answered, asked-refused, asked-lacks, does-planned, planned-then}
 use Rattle.hurd_dirs.specs.Entry.{dir_asks}
-use Rattle.hurd_dirs.specs.File.{file_by, making_file, mkfile, mkfile_asks, plan_mkfile, touches_mkfile}
+use Rattle.hurd_dirs.specs.File.{file_by, mkfile_asks, plan_mkfile, touches_mkfile}
 use Rattle.hurd_dirs.proofs.EntryLaws.{IsEntryAt, entry_dir, entry_seen, dir_same, dir_plain, right_taken}
 
 -- who makes it, and the server
@@ -44,15 +42,10 @@ module _ (f : NewNodeAt) where
   file_fits i tree = ((good i.kind).newborn tree i.text f.dir None (record { name = f.dir; kind = File; owner = f.owner; group = f.group; mode = f.mode }) file refl, tree_holds i.kind file.body tree, tree_has i.kind file.header tree)
 
 making_same : {S : ℕ → Bool} {v w : World} → Agree S v w → (t : ℕ) → S t ≡ true → (f : NewNodeAt) → Sees S v (BodyOf f.dir) → making_asks w t f ≡ making_asks v t f
-making_same a t ours f sees =
-    first_same _ _ _ _ (on_same _ _ _ _ _ (same_tasks a t ours) (λ x e. refl)) (λ x room.
-    first_same _ _ _ _ (makes_same a f.dir f.entry File sees) (λ u may.
-    on_same _ _ _ _ _ (home_same a f.dir sees.0) (λ s e. refl)))
+making_same a t ours f sees = search (first_same, on_same, same_tasks a t ours, makes_same a f.dir f.entry File sees, home_same a f.dir sees.0) depth 12
 
 making_plain : (w : World) (t : ℕ) (f : NewNodeAt) → IsPlain (making_asks w t f)
-making_plain w t f =
-    first_plain _ _ (on_plain _ _ _ refl (λ x e. given_plain _ _ _ refl (λ room. ok_plain _))) (λ x room.
-    first_plain _ _ (makes_plain w f.dir f.entry File) (λ u may. on_plain _ _ _ refl (λ s e. ok_plain _)))
+making_plain w t f = search (first_plain, on_plain, given_plain, makes_plain, ok_plain) depth 12
 
 -- dir_mkfile: it asks for a directory whose entries the caller sees
 
@@ -75,12 +68,7 @@ module _ (t p : ℕ) (flags : OpenFlags) (mode : Mode) where
   mkfile_seen {S} {v} ours a b = subst (λ n. Sees S v (BodyOf n)) (sym b.dir) (entry_seen t ours p a.0 b.is_entry)
 
   mkfile_same : {S : ℕ → Bool} {v w : World} → Agree S v w → S t ≡ true → mkfile_asks w t p mode ≡ mkfile_asks v t p mode
-  mkfile_same a ours =
-      first_same _ _ _ _ (port_same a t ours p) (λ n is.
-      first_same _ _ _ _ (dir_same a n (port_seen t ours p n is)) (λ u may. on_same _ _ _ _ _ refl (λ owner least. refl)))
-
-  mkfile_plain : (w : World) → IsPlain (mkfile_asks w t p mode)
-  mkfile_plain w = first_plain _ _ (port_plain w t p) (λ n is. first_plain _ _ (dir_plain w n) (λ u may. on_plain _ _ _ refl (λ owner least. ok_plain _)))
+  mkfile_same {S} {v} a ours = search (first_same, port_same a t ours, dir_same a, port_seen {S = S} {v = v} t ours p) depth 12
 
   abbrev modes : OpenFlags
   modes = open_modes flags
@@ -97,30 +85,5 @@ module _ (t p : ℕ) (flags : OpenFlags) (mode : Mode) where
         (ways_named w t p a.0.right right s.coherent) refl (λ S ours. (right_taken t ours p a.0.right right, ways_seen w t p a.0.right right S ours, OfNode a.1.dir (mkfile_seen ours a b).0 k.home)))));
     same = λ S v w c d a ours. answered_same _ _ _ _ (mkfile_same a ours) (λ b is.
         answered_same _ _ _ _ (making_same a t ours b.1 (mkfile_seen ours b (file_made_by v b is))) (λ m may. refl));
-    plain = λ w. answered_plain _ _ (mkfile_plain w) (λ a is. answered_plain _ _ (making_plain w t a.1) (λ m may. done_plain (Port m.0.next) refl));
+    plain = λ w. search (answered_plain, first_plain, on_plain, port_plain, dir_plain, making_plain, ok_plain, done_plain) depth 12;
   }
-
--- what the row answers
-
-module _ (w : World) (t p : ℕ) (flags : OpenFlags) (mode : Mode) (a : Named × NewNodeAt) (is : mkfile_asks w t p mode ≡ Ok a) where
-  abbrev asks : Result (Task × Name) Errno
-  asks = making_asks w t a.1
-
-  -- it can't be made
-  pub mkfile-refused : (e : Errno) → Err e ≡ asked_only asks → Planned {T = ℕ} w (plan_mkfile w t p flags mode) (λ k. Port k) (Err e) w
-  mkfile-refused e h =
-      planned-then w (mkfile_asks w t p mode) (mkfile w t flags) (λ k. Port k) a (Err e) w is
-      (asked-refused {T = ℕ} w asks (making_file t flags a) (λ k. Port k) e (only-refused asks e h))
-
-  -- or finds no memory
-  pub mkfile-lacks : (u : Unit {0}) (e : Errno) → Ok u ≡ asked_only asks → e ≡ ENOMEM → Planned {T = ℕ} w (plan_mkfile w t p flags mode) (λ k. Port k) (Err e) w
-  mkfile-lacks u e h lacks =
-      let m = only-answered asks u h in
-      planned-then w (mkfile_asks w t p mode) (mkfile w t flags) (λ k. Port k) a (Err e) w is
-      (asked-lacks {T = ℕ} w asks (making_file t flags a) (λ k. Port k) m.0 e w m.1 refl refl lacks)
-
-  -- or is made
-  pub mkfile-made : (r : Result ℕ Errno) (y : World) → Does w asks (making_open t a.1 a.0.right.ids a.0.right.parents (open_modes flags)) (λ m. m.0.next) r y → Planned w (plan_mkfile w t p flags mode) (λ k. Port k) r y
-  mkfile-made r y does =
-      planned-then w (mkfile_asks w t p mode) (mkfile w t flags) (λ k. Port k) a r y is
-      (does-planned w asks (making_open t a.1 a.0.right.ids a.0.right.parents (open_modes flags)) (λ m. m.0.next) (making_file t flags a) (λ k. Port k) r y (λ m. (refl, refl)) (λ m. refl) does)

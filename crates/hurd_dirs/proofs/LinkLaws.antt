@@ -2,7 +2,6 @@
 use Rattle.std.proofs.Common.{◌≡◌, ℕ, Bool, true, List, refl, sym, subst, inl, inr}
 use Rattle.std.specs.Prelude.{Ok}
 use Rattle.hurd_trans_iface.proofs.Goods.{good}
-use Rattle.hurd_machine.specs.declared.call.Reply.TheVariants.{Done}
 use Rattle.hurd_machine.proofs.Common.{BodyOf, LeadsUp, Linked, Named, Seen, Sees, World, both_asks, links_at}
 use Rattle.hurd_machine.specs.World.{nodes_of}
 use Rattle.hurd_machine.proofs.Views.{Agree}
@@ -49,9 +48,7 @@ module _ (t p : ℕ) (name : List ℕ) (q : ℕ) where
 
   link_same : {S : ℕ → Bool} {v w : World} → Agree S v w → S t ≡ true → link_asks w t p name q ≡ link_asks v t p name q
   link_same {S} {v} {w} a ours =
-      first_same _ _ _ _ (both_same a t ours p q) (λ b is.
-      first_same _ _ _ _ refl (λ u known.
-      first_same _ _ _ _ (dir_same a b.0 (named_seen t ours p b.0 (are_named v t p q b is).one)) (λ d may. refl)))
+      first_same _ _ _ _ (both_same a t ours p q) (λ b is. search (first_same, dir_same a b.0 (named_seen t ours p b.0 (are_named v t p q b is).one)) depth 12)
 
   pub link_laws : CallLaws t (λ w. plan_link w t p name q) (λ w. touches_link w t p name q)
   link_laws = record {
@@ -61,5 +58,5 @@ module _ (t p : ℕ) (name : List ℕ) (q : ℕ) where
     same = λ S v w c d a ours. answered_same _ _ _ _ (link_same a ours) (λ f is.
         let n = named_by v f is in
         answered_same _ _ _ _ (links_same a f.dir f.file name (dir_seen ours f n) (file_seen ours f n)) (λ u may. refl));
-    plain = λ w. answered_plain _ _ (first_plain _ _ (both_plain w t p q) (λ b is. first_plain _ _ (name_plain name) (λ u known. first_plain _ _ (dir_plain w b.0) (λ d may. ok_plain _)))) (λ f is. answered_plain _ _ (links_plain w f.dir name f.file) (λ u may. done_plain Done refl));
+    plain = λ w. search (answered_plain, first_plain, both_plain, name_plain, dir_plain, links_plain, ok_plain, done_plain) depth 12;
   }

@@ -2,7 +2,6 @@
 use Rattle.std.proofs.Common.{◌≡◌, ℕ, Bool, true, List, refl, sym, subst, inl, inr, ap}
 use Rattle.std.specs.Prelude.{Some, Ok, is_none}
 use Rattle.hurd_machine.proofs.Common.{BodyOf, EACCES, EEXIST, LeadsUp, Linked, Mode, Named, Sees, World, body_at, entry_of, least_uid}
-use Rattle.hurd_machine.specs.declared.call.Reply.TheVariants.{Done}
 use Rattle.hurd_machine.specs.World.{nodes_of}
 use Rattle.hurd_machine.proofs.Views.{Agree, body_same}
 use Rattle.hurd_machine.proofs.Asks.{on_ok, given_ok, first_ok, on_same, given_same, first_same, on_plain, given_plain, first_plain, ok_plain, answered_same, answered_plain, done_plain}
@@ -50,5 +49,5 @@ module _ (t p : ℕ) (name : List ℕ) (mode : Mode) where
         dir_whole t f s name (made_by w f is).named m (asks_dir t f w m may) (made_leads w s.linked f is) (inl refl) (inr refl) (λ S ours. (made_seen ours f is).0)));
     same = λ S v w c d a ours. answered_same _ _ _ _ (mkdir_same a ours) (λ f is.
         answered_same _ _ _ _ (making_dir_same t f a ours (made_seen ours f is)) (λ m may. refl));
-    plain = λ w. answered_plain _ _ (first_plain _ _ (entry_plain w t p name) (λ n is. on_plain _ _ _ refl (λ owner least. given_plain _ _ _ refl (λ free. ok_plain _)))) (λ f is. answered_plain _ _ (making_dir_plain t f w) (λ m may. done_plain Done refl));
+    plain = λ w. search (answered_plain, first_plain, on_plain, given_plain, entry_plain, making_dir_plain, ok_plain, done_plain) depth 12;
   }

@@ -150,10 +150,7 @@ module _ {S : ℕ → Bool} {v w : World} (a : Agree S v w) (t : ℕ) (ours : S 
       given_same _ _ _ _ _ (empty_by (body_at v x.node) (body_at w x.node) (let e = a.parts (EmptyOf x.node) sees in cc)) (λ empty. refl))))
 
 taking_plain : (w : World) (t p : ℕ) (name : List ℕ) → IsPlain (taking_asks w t p name)
-taking_plain w t p name =
-    first_plain _ _ (entry_plain w t p name) (λ n is.
-    first_plain _ _ (on_plain _ _ _ refl (λ m found. on_plain _ _ _ refl (λ h eh. given_plain _ _ _ refl (λ kin. ok_plain _)))) (λ x found.
-    given_plain _ _ _ refl (λ may. ok_plain x)))
+taking_plain w t p name = search (first_plain, on_plain, given_plain, entry_plain, ok_plain) depth 12
 
 -- the laws of both
 
@@ -182,7 +179,7 @@ unlink_takes w t p name x is =
 pub unlink_laws : (t p : ℕ) (name : List ℕ) → CallLaws t (λ w. plan_unlink w t p name) (λ w. touches_unlink w t p name)
 unlink_laws t p name =
     removal_laws t p name (λ w. unlink_asks w t p name) (λ w. unlink_takes w t p name) (λ S v w c a ours. unlink_same a t ours p name)
-    (λ w. first_plain _ _ (taking_plain w t p name) (λ x is. given_plain _ _ _ refl (λ file. ok_plain x)))
+    (λ w. search (first_plain, given_plain, taking_plain, ok_plain) depth 12)
 
 -- dir_rmdir: a directory without entries, on which no server is active
 
@@ -198,4 +195,4 @@ rmdir_takes w t p name x is =
 pub rmdir_laws : (t p : ℕ) (name : List ℕ) → CallLaws t (λ w. plan_rmdir w t p name) (λ w. touches_rmdir w t p name)
 rmdir_laws t p name =
     removal_laws t p name (λ w. rmdir_asks w t p name) (λ w. rmdir_takes w t p name) (λ S v w c a ours. rmdir_same a t ours p name c)
-    (λ w. first_plain _ _ (taking_plain w t p name) (λ x is. given_plain _ _ _ refl (λ dir. given_plain _ _ _ refl (λ idle. given_plain _ _ _ refl (λ empty. ok_plain x)))))
+    (λ w. search (first_plain, given_plain, taking_plain, ok_plain) depth 12)

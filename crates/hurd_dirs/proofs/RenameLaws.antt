@@ -325,17 +325,10 @@ module _ (t p q : ℕ) (name new : List ℕ) where
     where
       by : (s : Bool) → IsPlain (if s then Ok tt else gives_way w b l.1 m)
       by true = ok_plain tt
-      by false = on_plain _ _ _ refl (λ j at. given_plain _ _ _ refl (λ kin.
-          given_plain _ _ _ refl (λ take. given_plain _ _ _ refl (λ over. given_plain _ _ _ refl (λ under. given_plain _ _ _ refl (λ idle. given_plain _ _ _ refl (λ empty. ok_plain tt)))))))
+      by false = search (on_plain, given_plain, ok_plain) depth 12
 
   rename_plain : (w : World) → IsPlain (rename_asks w t p name q new)
-  rename_plain w =
-      first_plain _ _ (both_plain w t p q) (λ a is.
-      first_plain _ _ (name_plain name) (λ u good.
-      first_plain _ _ (name_plain new) (λ u' good'.
-      first_plain _ _ (given_plain _ _ _ refl (λ dirs. given_plain _ _ _ refl (λ trees. given_plain _ _ _ refl (λ kin. given_plain _ _ _ refl (λ can. ok_plain tt))))) (λ d trees.
-      first_plain _ _ (given_plain _ _ _ refl (λ here. on_plain _ _ _ refl (λ n entry. on_plain _ _ _ refl (λ k at. given_plain _ _ _ refl (λ kin. given_plain _ _ _ refl (λ take. given_plain _ _ _ refl (λ out. ok_plain _))))))) (λ l leaving.
-      first_plain _ _ (old_plain w a.1 l _) (λ o old. ok_plain _))))))
+  rename_plain w = search (first_plain, on_plain, given_plain, both_plain, name_plain, old_plain, ok_plain) depth 24
 
   abbrev touched : World → Renaming → Part → Type 0
   touched w r x = ((x ≡ BodyOf r.from) ⊎ (x ≡ EmptyOf r.from)) ⊎ (((x ≡ BodyOf r.to) ⊎ (x ≡ EmptyOf r.to)) ⊎ ((x ≡ AttrOf r.node) ⊎ ((m : Name) × (r.old ≡ Some m) × ((x ≡ AttrOf m) ⊎ OnLinks w m 1 x))))
@@ -436,14 +429,6 @@ module _ (t p q : ℕ) (name new : List ℕ) where
   module _ (w : World) (r : Renaming) (is : rename_asks w t p name q new ≡ Ok r) where
     abbrev done : Renaming → Plan
     done r = record { reply = Done; changes = renames name new r r.old }
-
-    -- the node itself stands under the new name
-    pub rename-stays : is_there r.node r.old ≡ true → Planned w (plan_rename w t p name q new) (λ (u : Unit {0}). Done) (Ok tt) w
-    rename-stays there = asked-done w (rename_asks w t p name q new) done (λ (u : Unit {0}). Done) r tt w is refl (go r.old there)
-      where
-        go : (o : Option Name) → is_there r.node o ≡ true → w ≡ apply_all (renames name new r o) w
-        go None h = absurd (cc)
-        go (Some m) h = ap (λ s. apply_all (if s then [] else EditBody r.to (without_entry new) ∷ EditHeader m unlinked ∷ moves name new r) w) (sym h)
 
     pub rename-goes : is_there r.node r.old ≡ false → (x : Result (Unit {0}) Errno) (y : World) → Does w (renames_at w r.from name r.to) (λ u. core.renaming w r.from name r.to new) (λ u. tt {0}) x y
         → Planned w (plan_rename w t p name q new) (λ (u : Unit {0}). Done) x y

@@ -53,6 +53,7 @@ fn mkfile_asked<'a, S: Server>(
 /// Errors, in order: `ESRCH` no such task, `EBADF` no such port, `EDIED` no such node, `ENOTDIR`, `EROFS` its server keeps
 /// no tree, `EACCES` the port's ids may not search the directory, or may not write it, `ENOENT` a removed directory,
 /// `EACCES` the port has no uids, `EOVERFLOW` the task can have no port more, or can't name two things more, `ENOMEM`.
+#[tactic(auto, unfolding(hurd_machine::specs::Plan::answered))]
 pub fn dir_mkfile<S: Server>(
     core: &mut Core<S>,
     alloc: Global,

@@ -48,6 +48,7 @@ fn link_asked<S: Server>(
 /// tree, `EACCES` the port's ids may not search the directory, or may not write it, `ENOENT` a removed directory, `EXDEV` a
 /// file of another server, `EISDIR` the file is a directory, `EEXIST`, `EOVERFLOW` the file has 4,294,967,295 links,
 /// `ENOMEM`.
+#[tactic(auto, unfolding(hurd_machine::specs::Plan::answered))]
 pub fn dir_link<S: Server>(
     core: &mut Core<S>,
     alloc: Global,

@@ -49,6 +49,7 @@ fn mkdir_asked<'n, S: Server>(
 /// `ENOTDIR`, `EROFS` its server keeps no tree, `EACCES` the port's ids may not search the directory, or may not write it,
 /// `ENOENT` a removed directory, `EACCES` the port has no uids, `EEXIST`, `EOVERFLOW` the task can name nothing more,
 /// `ENOMEM`.
+#[tactic(auto, unfolding(hurd_machine::specs::Plan::answered))]
 pub fn dir_mkdir<S: Server>(
     core: &mut Core<S>,
     alloc: Global,

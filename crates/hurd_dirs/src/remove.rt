@@ -87,6 +87,7 @@ fn unlink_asked<S: Server>(
 /// `ENOTDIR`, `EROFS` its server keeps no tree, `EACCES` the port's ids may not search the directory, or may not write it,
 /// `ENOENT` a removed directory, or no such entry, `EDIED` no such node of the directory's server, `EACCES` in a sticky
 /// directory the ids hold neither its owner nor the entry's, `EISDIR`.
+#[tactic(auto, unfolding(hurd_machine::specs::Plan::answered))]
 pub fn dir_unlink<S: Server>(
     core: &mut Core<S>,
     task: TaskId,
@@ -133,6 +134,7 @@ fn rmdir_asked<S: Server>(
 /// `ENOENT` a removed directory, or no such entry, `EDIED` no such node of the directory's server, `EACCES` in a sticky
 /// directory the ids hold neither its owner nor the entry's, `ENOTDIR` what the entry names, `EBUSY` a server is active on it,
 /// `ENOTEMPTY`.
+#[tactic(auto, unfolding(hurd_machine::specs::Plan::answered))]
 pub fn dir_rmdir<S: Server>(
     core: &mut Core<S>,
     task: TaskId,

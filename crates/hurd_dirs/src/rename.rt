@@ -23,6 +23,7 @@ struct Renaming {
 }
 
 /// Whether a directory is a node, or below it: whether one meets the node on the way up from it.
+#[tactic(auto, using(crate::proofs::ClimbLaws::climb_step, crate::proofs::ClimbLaws::climb_end), unfolding(crate::specs::Rename::is_inside))]
 fn is_inside<S: Server>(core: &Core<S>, node: NodeName, dir: NodeName) -> bool
     ensures { result ≡ is_inside (world_of S.meaning core.now) node dir }
 {
@@ -218,6 +219,7 @@ fn is_there(node: NodeName, old: Option<NodeName>) -> bool
 /// entry's, `EINVAL` a directory into itself, or below; and of another node that stands under the new name: `EDIED` no such node
 /// of the directory's server, `EACCES` in a sticky directory the ids hold neither its owner nor the entry's, `ENOTDIR` a directory
 /// over none, `EISDIR` none over a directory, `EBUSY` a server is active on that directory, `ENOTEMPTY`; `ENOMEM`.
+#[tactic(auto, unfolding(hurd_machine::specs::Plan::answered))]
 pub fn dir_rename<S: Server>(
     core: &mut Core<S>,
     alloc: Global,

@@ -22,11 +22,6 @@ use Rattle.hurd_fsys.specs.Setting.{SetLacks, box_aims, emptying, leaver, plan_s
 use Rattle.hurd_fsys.proofs.StoringLaws.{some_has, storing_back, storing_names, storing_sets, tree_sets, words_told}
 use Rattle.hurd_fsys.proofs.SettingLaws.{setter}
 
--- what becomes of something is there where that is
-means_some : {S T : Type 0} (f : S → T) (o : Option S) → is_some (option_map f o) ≡ is_some o
-means_some f None = refl
-means_some f (Some x) = refl
-
 -- the words of the passive half are stored, where it is set
 pub stores : (w : World) (n : Name) (f : Setting) (words : List (List ℕ)) (r : Reply) (y : World) → sets_attrs_at w n ≡ Ok tt → true ≡ asks_trans f.passive SET
     → Follows w (answered (sets_attrs_at w n) (λ u. record { reply = Done; changes = EditHeader n (with_passive words) ∷ [] })) r y → y ≡ apply_all (storing f n words) w
@@ -63,12 +58,12 @@ module _ (w : World) (t : ℕ) (n : Name) (f : Setting) (words : List (List ℕ)
         )
 
 -- of a port that may set, on what it names
-module _ {S : Type 0} (mean : S → Meaning) (w : World) (t p : ℕ) (f : Setting) (words : List (List ℕ)) (server : Option S) (b : Bool) (brings : b ≡ is_some server) where
+module _ {S : Type 0} (mean : S → Meaning) (w : World) (t p : ℕ) (f : Setting) (words : List (List ℕ)) (server : Option S) (b : Bool) (brings : b ≡ is_some (option_map mean server)) where
   abbrev box : Option Meaning
   box = option_map mean server
 
   asked_by : (r : Result Named Errno) → r ≡ setter_asks w t p f b → setter_asks w t p f (is_some box) ≡ r
-  asked_by r is = ap (setter_asks w t p f) (means_some mean server ∙ sym brings) ∙ sym is
+  asked_by r is = ap (setter_asks w t p f) (sym brings) ∙ sym is
 
   abbrev tells : Unit {0} → Reply
   tells u = Done
@@ -101,71 +96,60 @@ module _ {S : Type 0} (mean : S → Meaning) (w : World) (t p : ℕ) (f : Settin
       then_seat : (r : Result (Unit {0}) Errno) (y : World) → Planned w (answered (seat_asks w f n) (seating w t n f words box)) tells r y → IsPlanned r y
       then_seat r y h = then_set r y (subst (λ (b : Bool). Planned w (setting_where b w t f words box n) tells r y) half h)
 
-      -- the port's node is there
-      there : header_at w n.right.node ≡ Some n.header
-      there = (setter t p f w b n (sym is)).is_named.is_header
+      module _ (e : Errno) (asked : Err e ≡ seat_asks w f n) where
+        pub set_kept : IsPlanned (Err e) w
+        set_kept = then_seat (Err e) w (asked-refused w (seat_asks w f n) (seating w t n f words box) tells e (sym asked))
 
-      module _ (held : Option (Bor (List (List ℕ)))) (passive : option_copied held ≡ passive_of (node_at w n.right.node)) (has : Bool) (stored : has ≡ is_some held) where
-        told_stored : has_words n.header.passive ≡ has
-        told_stored = sym (some_has n.header.passive) ∙ ap is_some (sym (words_told w n.right.node n.header there) ∙ sym passive) ∙ means_some (λ x. x.now) held ∙ sym stored
+        pub kept_freely : IsFollowed (Err e) w
+        kept_freely =
+            follows-then w (setter_asks w t p f (is_some box)) (setting w t f words box) n (Refused e) w (asked_by (Ok n) is)
+            (subst (λ (b : Bool). Follows w (setting_where b w t f words box n) (Refused e) w) half
+            (follows-refused w (seat_asks w f n) (seating w t n f words box) e (sym asked)))
 
-        module _ (e : Errno) (asked : has_words n.header.passive ≡ has → Err e ≡ seat_asks w f n) where
-          pub set_kept : IsPlanned (Err e) w
-          set_kept = then_seat (Err e) w (asked-refused w (seat_asks w f n) (seating w t n f words box) tells e (sym (asked told_stored)))
+      module _ (old : Option Name) (at : Ok old ≡ seat_asks w f n) where
+        then_old : (r : Result (Unit {0}) Errno) (y : World) → Planned w (seating w t n f words box old) tells r y → IsPlanned r y
+        then_old r y h = then_seat r y (planned-then w (seat_asks w f n) (seating w t n f words box) tells old r y (sym at) h)
 
-          pub kept_freely : IsFollowed (Err e) w
-          kept_freely =
-              follows-then w (setter_asks w t p f (is_some box)) (setting w t f words box) n (Refused e) w (asked_by (Ok n) is)
-              (subst (λ (b : Bool). Follows w (setting_where b w t f words box n) (Refused e) w) half
-              (follows-refused w (seat_asks w f n) (seating w t n f words box) e (sym (asked told_stored))))
+        -- words may be stored
+        pub may_store : sets_attrs_at w n.right.node ≡ Ok tt
+        may_store =
+            let seats = (given_ok EOPNOTSUPP _ _ old (sym at)).0 in
+            tree_sets w n.right.node n.header (setter t p f w b n (sym is)).is_named.is_header (and_both (tree_by (info_at w n.right.node)) (not (is_server_root w n.right.node)) seats).0
 
-        module _ (old : Option Name) (asked : has_words n.header.passive ≡ has → Ok old ≡ seat_asks w f n) where
-          at : Ok old ≡ seat_asks w f n
-          at = asked told_stored
+        -- without a box the words are stored, and the seat is emptied
+        pub set_emptied : (u : Unit {0}) (v y : World) → server ≡ None → v ≡ apply_all (storing f n.right.node words) w → y ≡ apply_all (emptying f n.right.node old) v → IsPlanned (Ok u) y
+        unfolding answered
+        set_emptied u v y none stores makes =
+            then_old (Ok u) y (subst (λ (b : Option Meaning). Planned w (seating w t n f words b old) tells (Ok u) y) (sym (ap (option_map mean) none))
+            (refl, makes ∙ ap (apply_all (emptying f n.right.node old)) stores ∙ sym (apply_all-append (storing f n.right.node words) (emptying f n.right.node old) w)))
 
-          then_old : (r : Result (Unit {0}) Errno) (y : World) → Planned w (seating w t n f words box old) tells r y → IsPlanned r y
-          then_old r y h = then_seat r y (planned-then w (seat_asks w f n) (seating w t n f words box) tells old r y (sym at) h)
+        abbrev seated_with : Meaning → List Name → Task → List Change
+        seated_with m targets x = storing f n.right.node words ++ attaching t (seat_on n.right.node n.header m (leaver f old) false) (server_ids n.header.owner) targets m x
 
-          -- words may be stored
-          pub may_store : sets_attrs_at w n.right.node ≡ Ok tt
-          may_store =
-              let seats = (given_ok EOPNOTSUPP _ _ old (sym at)).0 in
-              tree_sets w n.right.node n.header there (and_both (tree_by (info_at w n.right.node)) (not (is_server_root w n.right.node)) seats).0
+        module _ (s : S) (some : server ≡ Some s) where
+          abbrev m : Meaning
+          m = mean s
 
-          -- without a box the words are stored, and the seat is emptied
-          pub set_emptied : (u : Unit {0}) (v y : World) → server ≡ None → v ≡ apply_all (storing f n.right.node words) w → y ≡ apply_all (emptying f n.right.node old) v → IsPlanned (Ok u) y
-          unfolding answered
-          set_emptied u v y none stores makes =
-              then_old (Ok u) y (subst (λ (b : Option Meaning). Planned w (seating w t n f words b old) tells (Ok u) y) (sym (ap (option_map mean) none))
-              (refl, makes ∙ ap (apply_all (emptying f n.right.node old)) stores ∙ sym (apply_all-append (storing f n.right.node words) (emptying f n.right.node old) w)))
+          -- with a box
+          brought : (r : Result (Unit {0}) Errno) (y : World) → Planned w (seating w t n f words (Some m) old) tells r y → IsPlanned r y
+          brought r y h = then_old r y (subst (λ (b : Option Meaning). Planned w (seating w t n f words b old) tells r y) (sym (ap (option_map mean) some)) h)
 
-          abbrev seated_with : Meaning → List Name → Task → List Change
-          seated_with m targets x = storing f n.right.node words ++ attaching t (seat_on n.right.node n.header m (leaver f old) false) (server_ids n.header.owner) targets m x
+          -- a box may come
+          box_may_come : IsOk (first (setter_asks w t p f true) (seat_asks w f))
+          unfolding first
+          box_may_come =
+              let asked : Ok n ≡ setter_asks w t p f true = is ∙ ap (setter_asks w t p f) (brings ∙ ap (λ (o : Option S). is_some (option_map mean o)) some) in
+              subst (λ (r : Result Named Errno). IsOk (first r (seat_asks w f))) asked (subst (λ (r : Result (Option Name) Errno). IsOk r) at refl)
 
-          module _ (s : S) (some : server ≡ Some s) where
-            abbrev m : Meaning
-            m = mean s
+          -- its targets are not found
+          pub set_aimless : (e : Errno) → FindsAims {B = List Name} m (λ ns. ns) (aims_asks ENXIO w (lent n.right.ids n.header.owner) m) (Err e) → IsPlanned (Err e) w
+          set_aimless e (inl refused) = brought (Err e) w (asked-refused w (box_aims w n (Some m)) (spec.seated w t n f words (Some m) old) tells e refused)
+          set_aimless e (inr lacks) = (refl, inr (lacks.0, inr (subst (λ (b : Option Meaning). SetLacks w t p f b) (sym (ap (option_map mean) some)) (lacks.1, box_may_come))))
 
-            -- with a box
-            brought : (r : Result (Unit {0}) Errno) (y : World) → Planned w (seating w t n f words (Some m) old) tells r y → IsPlanned r y
-            brought r y h = then_old r y (subst (λ (b : Option Meaning). Planned w (seating w t n f words b old) tells r y) (sym (ap (option_map mean) some)) h)
-
-            -- a box may come
-            box_may_come : IsOk (first (setter_asks w t p f true) (seat_asks w f))
-            unfolding first
-            box_may_come =
-                let asked : Ok n ≡ setter_asks w t p f true = is ∙ ap (setter_asks w t p f) (brings ∙ ap is_some some) in
-                subst (λ (r : Result Named Errno). IsOk (first r (seat_asks w f))) asked (subst (λ (r : Result (Option Name) Errno). IsOk r) at refl)
-
-            -- its targets are not found
-            pub set_aimless : (e : Errno) → FindsAims {B = List Name} m (λ ns. ns) (aims_asks ENXIO w (lent n.right.ids n.header.owner) m) (Err e) → IsPlanned (Err e) w
-            set_aimless e (inl refused) = brought (Err e) w (asked-refused w (box_aims w n (Some m)) (spec.seated w t n f words (Some m) old) tells e refused)
-            set_aimless e (inr lacks) = (refl, inr (lacks.0, inr (subst (λ (b : Option Meaning). SetLacks w t p f b) (sym (ap (option_map mean) some)) (lacks.1, box_may_come))))
-
-            -- they are: the words are stored, and it is taken
-            pub set_seated : (targets : List Name) → aims_asks ENXIO w (lent n.right.ids n.header.owner) m ≡ Ok targets → (r : Result (Unit {0}) Errno) (y : World)
-                → Does w (naming_asks w t 2) (seated_with m targets) (λ x. tt {0}) r y → IsPlanned r y
-            set_seated targets found r y does =
-                brought r y
-                (planned-then w (box_aims w n (Some m)) (spec.seated w t n f words (Some m) old) tells targets r y found
-                (does-planned w (naming_asks w t 2) (seated_with m targets) (λ x. tt {0}) (λ x. record { reply = Done; changes = seated_with m targets x }) tells r y (λ x. (refl, refl)) (λ x. refl) does))
+          -- they are: the words are stored, and it is taken
+          pub set_seated : (targets : List Name) → aims_asks ENXIO w (lent n.right.ids n.header.owner) m ≡ Ok targets → (r : Result (Unit {0}) Errno) (y : World)
+              → Does w (naming_asks w t 2) (seated_with m targets) (λ x. tt {0}) r y → IsPlanned r y
+          set_seated targets found r y does =
+              brought r y
+              (planned-then w (box_aims w n (Some m)) (spec.seated w t n f words (Some m) old) tells targets r y found
+              (does-planned w (naming_asks w t 2) (seated_with m targets) (λ x. tt {0}) (λ x. record { reply = Done; changes = seated_with m targets x }) tells r y (λ x. (refl, refl)) (λ x. refl) does))

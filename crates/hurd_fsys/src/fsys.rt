@@ -18,6 +18,7 @@ use std::alloc::Global;
 ///
 /// Errors, in order: `ESRCH` no such task, `EBADF` no such port, or one to use a node, `EDIED` the server is gone, `EBUSY` the boot
 /// server, or one that has users, without `FORCE`.
+#[tactic(auto, unfolding(hurd_machine::specs::Plan::answered))]
 pub fn fsys_goaway<S: Server>(
     core: &mut Core<S>,
     task: TaskId,
@@ -64,6 +65,7 @@ fn who_may_go<S: Server>(
 ///
 /// Errors, in order: `ESRCH` no such task, `EBADF` no such port, or one that controls a server, `EDIED` no such node, `EPERM` the
 /// port's ids don't own it, `ENXIO` no server is active on it, `EOVERFLOW`, `ENOMEM`.
+#[tactic(auto, unfolding(hurd_machine::specs::Plan::answered))]
 pub fn file_get_translator_cntl<S: Server>(
     core: &mut Core<S>,
     task: TaskId,
@@ -91,6 +93,7 @@ fn seated<S: Server>(core: &Core<S>, task: TaskId, port: u64) -> Result<ServerNa
 ///
 /// Errors, in order: `ESRCH` no such task, `EBADF` no such port, or one that controls a server, `EDIED` no such node, `EPERM` the
 /// port's ids hold neither the server's uid nor 0, `EOVERFLOW`, `ENOMEM`.
+#[tactic(auto, unfolding(hurd_machine::specs::Plan::answered))]
 pub fn file_getcontrol<S: Server>(core: &mut Core<S>, task: TaskId, port: u64) -> Result<u64, Errno>
     ensures { let w = world_of S.meaning core.old in
         Planned w (plan_getcontrol w task.0 port) Port result (world_of S.meaning core.new) }
@@ -151,6 +154,7 @@ pub fn fsys_get_options<S: Server>(
 ///
 /// Errors, in order: `ESRCH` no such task, `EBADF` no such port, or one to use a node, `EDIED` the server is gone, `EINVAL` words
 /// that the server doesn't take, `ENOMEM`.
+#[tactic(auto, unfolding(hurd_machine::specs::Plan::answered))]
 pub fn fsys_set_options<S: Server>(
     core: &mut Core<S>,
     alloc: Global,

@@ -1,16 +1,15 @@
 //! Setting a translator, and telling the words of a passive one (`fs.defs`).
-ghost use Rattle.std.specs.Prelude.{◌≡◌, ◌++◌, [], IfErr, IfSome, IsNone, Ok};
+ghost use Rattle.std.specs.Prelude.{◌≡◌, ◌++◌, [], IfErr, IfSome, IsNone, Ok, is_some};
 ghost use Rattle.std.specs.Option.{option_map};
 ghost use Rattle.hurd_creds.specs.Memory.{Meets};
 ghost use Rattle.hurd_trans_iface.specs.Nodes.{has_words};
 ghost use Rattle.hurd_trans_iface.specs.Meaning.{Begins};
 ghost use Rattle.hurd_machine.specs.World.{sets_attrs_at, words_at};
 ghost use Rattle.hurd_machine.specs.Change.{apply_all};
-ghost use Rattle.hurd_machine.specs.Handle.{Named};
 ghost use Rattle.hurd_machine.specs.Plan.{Follows, Planned, told};
 ghost use Rattle.hurd_machine.specs.declared.call.Reply.TheVariants as reply;
 ghost use Rattle.hurd_core.specs.Core.{Does, attaching, naming_asks, without_box, world_of};
-ghost use Rattle.hurd_core.specs.PortNode.{named};
+ghost use Rattle.hurd_core.specs.PortNode.{header_of, named, named_of};
 ghost use Rattle.hurd_lookup.specs.Lacking.{PlannedOr};
 ghost use Rattle.hurd_lookup.specs.Lent.{server_ids};
 ghost use Rattle.hurd_fsys.specs.Setting.{SetLacks, emptying, is_excluded, leaver, may_replace, plan_get_translator, plan_set_translator, root_mode, seat_asks, sets_nothing, setter_asks, storing, with_search};
@@ -52,6 +51,7 @@ fn leaver(setting: Setting, old: Option<ServerName>) -> Option<ServerName>
 /// active `SET` one with users, without `ORPHAN` and `FORCE`; of each target of the box in order `ENXIO` a translator waits there, or those of its lookup, with the uid of the
 /// node's owner where the port's ids hold it or 0, else with no ids; `ENOTDIR` a union's target is no directory, `EOVERFLOW`, `ENOMEM`, which
 /// may come in place of what is asked of targets, or behind that. Without a box it takes no memory.
+#[tactic(auto, unfolding(hurd_machine::specs::Plan::answered))]
 pub fn file_set_translator<S: Server>(
     core: &mut Core<S>,
     alloc: Global,
@@ -68,7 +68,7 @@ pub fn file_set_translator<S: Server>(
         IsNone server → Follows w (plan_set_translator w task.0 port setting words (option_map S.meaning server)) (told (λ u. reply.Done) (without_box result)) (world_of S.meaning core.new) }
     ensures back { IfErr result (λ e. e.1 ≡ server) }
 {
-    let named = match setter(core, task, port, setting, server.is_some()) {
+    let named = match setter(core, task, port, setting, is_brought(&server)) {
         Ok(named) => named,
         Err(errno) => return Err((errno, server)),
     };
@@ -77,8 +77,7 @@ pub fn file_set_translator<S: Server>(
     if sets_nothing(setting) {
         return Ok(());
     }
-    let is_stored = core.passive(node).is_some();
-    let old = match old_server(core, node, is_stored, setting) {
+    let old = match old_server(core, &named, setting) {
         Ok(old) => old,
         Err(errno) => return Err((errno, server)),
     };
@@ -116,6 +115,16 @@ pub fn file_set_translator<S: Server>(
     }
 }
 
+/// Whether a box is brought.
+fn is_brought<S: Server>(server: &Option<S>) -> bool
+    ensures { result ≡ is_some (option_map S.meaning server.now) }
+{
+    match server {
+        Some(_) => true,
+        None => false,
+    }
+}
+
 /// The node of a port that its ids own, and that no box is brought to without active `SET`.
 ///
 /// Errors, in order: `ESRCH`, `EBADF`, `EDIED`, `EPERM`, `EINVAL`.
@@ -142,22 +151,32 @@ fn setter<S: Server>(
 #[tactic(auto, unfolding(hurd_machine::specs::Plan::given))]
 fn old_server<S: Server>(
     core: &Core<S>,
-    node: NodeName,
-    is_stored: bool,
+    named: &PortNode,
     setting: Setting,
 ) -> Result<Option<ServerName>, Errno>
-    ensures { (n : Named) → n.right.node ≡ node → has_words n.header.passive ≡ is_stored → result ≡ seat_asks (world_of S.meaning core.now) setting n }
+    ensures { result ≡ seat_asks (world_of S.meaning core.now) setting (named_of named.now) }
 {
+    let node = named.right.node;
     if !core.keeps_tree(node) || core.is_root(node) {
         return Err(Errno::EOPNOTSUPP);
     }
     let old = core.active(node);
-    let is_excluded = is_excluded(setting.passive, is_stored)
+    let is_excluded = is_excluded(setting.passive, has_words(named))
         || is_excluded(setting.active, old.is_some());
     if is_excluded || !may_replace(core, setting, old) {
         return Err(Errno::EBUSY);
     }
     Ok(old)
+}
+
+/// Whether words are stored with a port's node.
+fn has_words(named: &PortNode) -> bool
+    ensures { result ≡ has_words (header_of named.now).passive }
+{
+    match named.words {
+        Some(words) => words.has_any(),
+        None => false,
+    }
 }
 
 /// Whether a half that is there is to be a new one.
@@ -203,6 +222,7 @@ pub(crate) fn seat<S: Server>(
 }
 
 /// Stores the words of a passive translator with a node, where the passive half is set.
+#[tactic(auto, unfolding(hurd_machine::specs::Plan::answered))]
 fn store<S: Server>(core: &mut Core<S>, node: NodeName, setting: Setting, words: Words)
     requires { sets_attrs_at (world_of S.meaning core.old) node ≡ Ok tt }
     ensures { world_of S.meaning core.new ≡ apply_all (storing setting node words) (world_of S.meaning core.old) }
@@ -262,6 +282,7 @@ fn stored<S: Server>(core: &Core<S>, alloc: Global, node: NodeName) -> Result<Wo
 ///
 /// Errors, in order: `ESRCH` no such task, `EBADF` no such port, or one that controls a server, `EDIED` no such node, `EINVAL` it has
 /// none, `ENOMEM`.
+#[tactic(auto, unfolding(hurd_machine::specs::Plan::answered, hurd_machine::specs::Plan::first, hurd_machine::specs::Plan::on))]
 pub fn file_get_translator<S: Server>(
     core: &Core<S>,
     alloc: Global,
@@ -271,10 +292,10 @@ pub fn file_get_translator<S: Server>(
     ensures { let w = world_of S.meaning core.now in Planned w (plan_get_translator w task.0 port) reply.Words result w }
 {
     let found = core.port_node(task, port)?;
-    let Some(words) = core.passive(found.right.node) else {
-        return Err(Errno::EINVAL);
-    };
-    Ok(words.copied(alloc)?)
+    match found.words {
+        Some(words) if words.has_any() => Ok(words.copied(alloc)?),
+        _ => Err(Errno::EINVAL),
+    }
 }
 
 /// Where the active half is set, the old server goes, or loses its seat with `ORPHAN`.

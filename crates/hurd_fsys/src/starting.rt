@@ -25,13 +25,14 @@ use std::alloc::Global;
 /// The task gives up what it was to start. Takes no memory.
 ///
 /// Errors: `ESRCH` no such task, or it is to start nothing.
+#[tactic(auto, unfolding(hurd_machine::specs::Plan::on, hurd_machine::specs::Plan::answered))]
 pub fn start_failed<S: Server>(core: &mut Core<S>, task: TaskId) -> Result<(), Errno>
     ensures { let w = world_of S.meaning core.old in
         Follows w (plan_start_failed w task.0) (told (λ u. Done) result) (world_of S.meaning core.new) }
 {
-    if core.pending(task).is_none() {
+    let Some(_) = core.pending(task) else {
         return Err(Errno::ESRCH);
-    }
+    };
     core.unpend(task)
 }
 
