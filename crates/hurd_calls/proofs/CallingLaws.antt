@@ -5,7 +5,7 @@ use Rattle.hurd_creds.specs.declared.errno.Errno.TheVariants.{ENOMEM}
 use Rattle.hurd_trans_iface.specs.Meaning.{Meaning}
 use Rattle.hurd_machine.specs.declared.call.Call as call
 use Rattle.hurd_machine.specs.declared.call.Reply as reply
-use Rattle.hurd_machine.specs.declared.call.Reply.TheVariants.{Done, Found, Port, Data, Count, Names, Words, Stat, Modes, Same, Refused, Back}
+use Rattle.hurd_machine.specs.declared.call.Reply.TheVariants.{Done}
 use Rattle.hurd_machine.specs.Calls.{Call, Reply, call_by, reply_by, lacks_memory, refusal}
 use Rattle.hurd_machine.specs.World.{World}
 use Rattle.hurd_laws.specs.Step.{after, reply_of}
@@ -21,17 +21,7 @@ use Rattle.hurd_lists.specs.Calls.{begun}
 -- want of memory, whatever boxes mean
 lacks_by : {S : Type 0} (f : S → Meaning) (r : reply.Reply S) → lacks_memory (reply_by f r) ≡ lacks_memory r
 lacks_by f Done = refl
-lacks_by f (Found x) = refl
-lacks_by f (Port x) = refl
-lacks_by f (Data x) = refl
-lacks_by f (Count x) = refl
-lacks_by f (Names x) = refl
-lacks_by f (Words x) = refl
-lacks_by f (Stat x) = refl
-lacks_by f (Modes x) = refl
-lacks_by f (Same x) = refl
-lacks_by f (Refused e) = refl
-lacks_by f (Back e s) = refl
+lacks_by f _ = refl
 
 refusal_lacks : {S : Type 0} (o : Option S) → lacks_memory (refusal o ENOMEM) ≡ true
 refusal_lacks None = refl

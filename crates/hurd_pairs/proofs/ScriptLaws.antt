@@ -17,7 +17,7 @@ use Rattle.hurd_teaching.specs.Programs.{AreThese}
 use Rattle.hurd_teaching.specs.declared.learners.Learners.{Learners}
 use Rattle.hurd_terminal.specs.Faults.{AppendsFront}
 use Rattle.hurd_terminal.specs.declared.fault.Fault.{Fault}
-use Rattle.hurd_terminal.specs.declared.fault.Fault.TheVariants.{Read, Write, Bad, Unknown, Boot, Memory}
+use Rattle.hurd_terminal.specs.declared.fault.Fault.TheVariants.{Read, Write, Memory}
 use Rattle.hurd_terminal.specs.declared.print.Output.{Output}
 use Rattle.hurd_pairs.specs.Differences.{SeeAlike, SeeOther}
 use Rattle.hurd_pairs.specs.Lines.{line_before}
@@ -91,10 +91,7 @@ pub first_faulty : (word one two : List ℕ) (before : Option (List ℕ)) (fault
 unfolding PairPrints
 first_faulty word one two before Read faulty = absurd faulty
 first_faulty word one two before Write faulty = absurd faulty
-first_faulty word one two before (Bad line) faulty = ([], Appends-nil before, (faulty, refl))
-first_faulty word one two before Unknown faulty = ([], Appends-nil before, (faulty, refl))
-first_faulty word one two before (Boot e) faulty = ([], Appends-nil before, (faulty, refl))
-first_faulty word one two before Memory faulty = ([], Appends-nil before, (faulty, refl))
+first_faulty word one two before _ faulty = ([], Appends-nil before, (faulty, refl))
 
 pub second_faulty : (word one two : List ℕ) (before : Option (List ℕ)) (fault : Fault) → IsFit scripts word one → IsFaulty scripts word two fault
     → (printed : List ℕ) × Appends before before printed × PairPrints word one two (Err (Second fault)) printed
@@ -121,10 +118,7 @@ module _ (word one two : List ℕ) (v w : Way) (learners others : Learners) (fir
   fault_prints output before after Memory adds = ([], adds, (tt, refl))
   fault_prints output before after Write (failed, verdict, text, report, (front, is, adds)) =
       (front, adds, (verdict, text, script_report word one two v w learners first second these pair verdict text report, is))
-  fault_prints output before after Read none = absurd none
-  fault_prints output before after (Bad line) none = absurd none
-  fault_prints output before after Unknown none = absurd none
-  fault_prints output before after (Boot e) none = absurd none
+  fault_prints output before after _ none = absurd none
 
 -- a write is to blame only where one failed
 
@@ -133,10 +127,7 @@ pub write_failed : (learners : Learners) (one two : List ℕ) (v w : Way) {W : T
 unfolding PrintsReport
 write_failed learners one two v w output before after Write (failed, v2, t2, r2, f2) is = failed
 write_failed learners one two v w output before after Memory adds is = absurd (cc)
-write_failed learners one two v w output before after Read none is = absurd none
-write_failed learners one two v w output before after (Bad line) none is = absurd none
-write_failed learners one two v w output before after Unknown none is = absurd none
-write_failed learners one two v w output before after (Boot e) none is = absurd none
+write_failed learners one two v w output before after _ none is = absurd none
 
 -- the fault that ended a run
 abbrev pub told_fault : Result Verdict PairFault → PairFault

@@ -58,17 +58,6 @@ pub fn fields(verb: Verb) -> &'static [Field]
 {
     match verb {
         Verb::PortReceive | Verb::FsysStartup | Verb::StartFailed => &[],
-        Verb::PortDeallocate
-        | Verb::IoStat
-        | Verb::IoReadable
-        | Verb::IoGetOpenmodes
-        | Verb::IoDuplicate
-        | Verb::IoReauthenticate
-        | Verb::FileCheckAccess
-        | Verb::FileGetTranslator
-        | Verb::FileGetTranslatorCntl
-        | Verb::FileGetcontrol
-        | Verb::DirReaddir => &[Field::Port],
         Verb::PortSend => &[Field::Port, Field::To],
         Verb::AuthMakeauth => &[Field::Uids, Field::Gids],
         Verb::IoRead => &[Field::Port, Field::Amount, Field::Offset],
@@ -97,6 +86,7 @@ pub fn fields(verb: Verb) -> &'static [Field]
         Verb::DirRmdir | Verb::DirUnlink => &[Field::Dir, Field::Name],
         Verb::DirLink => &[Field::Dir, Field::Name, Field::File],
         Verb::DirRename => &[Field::Dir, Field::Name, Field::To, Field::New],
+        _ => &[Field::Port],
     }
 }
 

@@ -1,5 +1,5 @@
 //! Replies as objects.
-ghost use Rattle.std.specs.Prelude.{◌≡◌, ◌++◌, OnOk};
+ghost use Rattle.std.specs.Prelude.{◌≡◌, ◌++◌, OnOk, decimal};
 ghost use Rattle.hurd_creds.specs.Errors.{name_of};
 ghost use Rattle.hurd_machine.specs.Calls.{reply_by};
 ghost use Rattle.hurd_lists.specs.Replies.{flags_text};
@@ -15,6 +15,14 @@ use hurd_trans_iface::Server;
 use hurd_words::printing::push_mode;
 use std::alloc::{AllocError, Global};
 
+/// Prints a number behind a text.
+fn push_behind(text: &mut Vec<u8>, front: &[u8], number: u64) -> Result<(), AllocError>
+    ensures { OnOk result (text.new.items ≡ text.old.items ++ (front.now ++ decimal number)) }
+{
+    text.extend_from_slice(front)?;
+    push_decimal(text, number)
+}
+
 /// Prints a port as a field behind others, where there is one.
 fn push_port(text: &mut Vec<u8>, port: Option<u64>) -> Result<(), AllocError>
     ensures { OnOk result (text.new.items ≡ text.old.items ++ port_text port) }
@@ -22,8 +30,7 @@ fn push_port(text: &mut Vec<u8>, port: Option<u64>) -> Result<(), AllocError>
     let Some(port) = port else {
         return Ok(());
     };
-    text.extend_from_slice(b", \"port\": ")?;
-    push_decimal(text, port)
+    push_behind(text, b", \"port\": ", port)
 }
 
 /// Prints what a lookup found.
@@ -31,10 +38,7 @@ fn push_lookup(text: &mut Vec<u8>, found: &Lookup) -> Result<(), AllocError>
     ensures { OnOk result (text.new.items ≡ text.old.items ++ lookup_text found.now) }
 {
     match found {
-        Lookup::Done(port) => {
-            text.extend_from_slice(b"\"Done\", \"port\": ")?;
-            push_decimal(text, *port)
-        }
+        Lookup::Done(port) => push_behind(text, b"\"Done\", \"port\": ", *port),
         Lookup::Retry { kind, name, port } => {
             text.extend_from_slice(b"\"Retry\", \"retry\": \"")?;
             text.extend_from_slice(retry_name(*kind).as_bytes())?;
@@ -130,18 +134,12 @@ fn push_reply_fields<S: Server>(
             text.extend_from_slice(b"\"Found\", \"found\": ")?;
             push_lookup(text, found)
         }
-        Reply::Port(port) => {
-            text.extend_from_slice(b"\"Port\", \"port\": ")?;
-            push_decimal(text, *port)
-        }
+        Reply::Port(port) => push_behind(text, b"\"Port\", \"port\": ", *port),
         Reply::Data(bytes) => {
             text.extend_from_slice(b"\"Data\", \"bytes\": ")?;
             push_quoted(text, bytes.as_slice())
         }
-        Reply::Count(count) => {
-            text.extend_from_slice(b"\"Count\", \"count\": ")?;
-            push_decimal(text, *count)
-        }
+        Reply::Count(count) => push_behind(text, b"\"Count\", \"count\": ", *count),
         Reply::Names(names) => {
             text.extend_from_slice(b"\"Names\", \"names\": ")?;
             push_texts(text, 0, names.as_slice())

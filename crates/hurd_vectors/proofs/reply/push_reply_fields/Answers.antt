@@ -4,15 +4,9 @@ use Rattle.hurd_vectors.proofs.reply.push_reply_fields.Goals as goal
 pub returns-in_ok-extend_from_slice-in-Found : goal.returns-in_ok-extend_from_slice-in-Found
 returns-in_ok-extend_from_slice-in-Found g c = rw c.in-Found.is (two_printed c.push_lookup.result _ _ _ _ _ c.in_ok-extend_from_slice-in-Found.ensures.items c.push_lookup.ensures)
 
-pub returns-in_ok-extend_from_slice-in-Port : goal.returns-in_ok-extend_from_slice-in-Port
-returns-in_ok-extend_from_slice-in-Port g c = rw c.in-Port.is (two_printed c.push_decimal.result _ _ _ _ _ c.in_ok-extend_from_slice-in-Port.ensures.items c.push_decimal.ensures)
-
 pub returns-in_ok-extend_from_slice-in-Data : goal.returns-in_ok-extend_from_slice-in-Data
 returns-in_ok-extend_from_slice-in-Data g c =
     rw c.in-Data.is (two_printed c.push_quoted.result _ _ _ _ _ c.in_ok-extend_from_slice-in-Data.ensures.items (rw c.as_slice.ensures at c.push_quoted.ensures))
-
-pub returns-in_ok-extend_from_slice-in-Count : goal.returns-in_ok-extend_from_slice-in-Count
-returns-in_ok-extend_from_slice-in-Count g c = rw c.in-Count.is (two_printed c.push_decimal-in-Count.result _ _ _ _ _ c.in_ok-extend_from_slice-in-Count.ensures.items c.push_decimal-in-Count.ensures)
 
 pub returns-in_ok-extend_from_slice-in-Names : goal.returns-in_ok-extend_from_slice-in-Names
 returns-in_ok-extend_from_slice-in-Names g c =
