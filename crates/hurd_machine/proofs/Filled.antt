@@ -114,9 +114,8 @@ module _ (w : World) (n : Name) where
 
   left_info : (bytes : Option (List ℕ → List ℕ)) (size : Option ℕ) (m : Name) → info_at (left_world n bytes size w) m ≡ info_at w m
   left_info None None m = refl
-  left_info None (Some k) m = refl
   left_info (Some f) None m = refl
-  left_info (Some f) (Some k) m = refl
+  left_info bytes size m = refl
 
   filled_left : (bytes : Option (List ℕ → List ℕ)) (size : Option ℕ) → ((x : Node) → get w.nodes n ≡ Some x → IsFit (info_at w n) (left_of bytes size x)) → AreFilled (nodes_of w) → AreFilled (nodes_of (left_world n bytes size w))
   filled_left bytes size = filled_by w (left_world n bytes size w) n (left_of bytes size) (left_here bytes size) (left_apart bytes size) (left_info bytes size)

@@ -10,7 +10,7 @@ use Rattle.hurd_ports.proofs.TaskLaws.{edit-apart, edit-length}
 use Rattle.hurd_machine.specs.Change.{settle, next_nodes, next_sites, next_opens, next_tasks}
 use Rattle.hurd_machine.proofs.Nodes.{attr_same, header_in, body_in, empty_in, header-with_body, body-with_header, edit_keeps, KeepsEmptiness, empty-kept, by_option}
 use Rattle.hurd_machine.proofs.Tasks.{count_edit, count_named, count_sent}
-use Rattle.hurd_machine.proofs.Coherence.{next_not, no_home, no_open, settled_apart, Proper, AllProper, no_node}
+use Rattle.hurd_machine.proofs.Coherence.{IsPlain, next_not, no_home, no_open, settled_apart, Proper, AllProper, no_node}
 use Rattle.hurd_machine.proofs.Keeping.{coherent_one}
 use Rattle.hurd_machine.proofs.Views.{Agree, Agree-trans}
 use Rattle.hurd_machine.specs.Touched.{Goes}
@@ -84,14 +84,6 @@ Full w t T p = T p ⊎ ((p ≡ TaskOf t) ⊎ IsUnnamed w p)
 abbrev pub IsExact : Change → Type 0
 IsExact Settle = ⊥
 IsExact c = Unit {0}
-
--- all but settling, and those by which servers come, go or lose their seat
-abbrev pub IsPlain : Change → Type 0
-IsPlain (Attach s at i node) = ⊥
-IsPlain (DropServer s) = ⊥
-IsPlain (Unseat n) = ⊥
-IsPlain Settle = ⊥
-IsPlain c = Unit {0}
 
 -- what such a change leaves of the world, part by part
 

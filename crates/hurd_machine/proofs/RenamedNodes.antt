@@ -25,10 +25,6 @@ module _ (f : OtherNames) where
   are_kin-renamed (Some s) None = refl
   are_kin-renamed (Some s) (Some q) = same_name-renamed f s q
 
-  pub is_one-renamed : (n : Name) (o : Option Name) → is_one (f.to n) (option_map f.to o) ≡ is_one n o
-  is_one-renamed n None = refl
-  is_one-renamed n (Some m) = same_name-renamed f n m
-
   pub is_listed-renamed : (n : Name) (ns : List Name) → is_listed (f.to n) (map f.to ns) ≡ is_listed n ns
   is_listed-renamed n [] = refl
   is_listed-renamed n (m ∷ ns) = ap₂ ◌||◌ (same_name-renamed f n m) (is_listed-renamed n ns)
@@ -70,14 +66,8 @@ module _ (f : OtherNames) where
   names_of-renamed (Some (Listing es)) = ap Ok (entry_names es)
 
   pub is_empty_dir-renamed : (b : Body) → is_empty_dir (body_renamed f.to b) ≡ is_empty_dir b
-  is_empty_dir-renamed (Content bs) = refl
   is_empty_dir-renamed (Listing []) = refl
-  is_empty_dir-renamed (Listing (e ∷ es)) = refl
-
-  pub content_in-renamed : (b : Option Body) → content_in (option_map (body_renamed f.to) b) ≡ content_in b
-  content_in-renamed None = refl
-  content_in-renamed (Some (Content bs)) = refl
-  content_in-renamed (Some (Listing es)) = refl
+  is_empty_dir-renamed b = refl
 
   entries_of : (n : Name) (es : List Entry) → list_any (is_of (f.to n)) (map (entry_renamed f.to) es) ≡ list_any (is_of n) es
   entries_of n [] = refl

@@ -34,14 +34,6 @@ module _ (f : OtherNames) where
   limit_by-renamed None = refl
   limit_by-renamed (Some i) = refl
 
-  pub options_in-renamed : (o : Option ServerInfo) → options_in (option_map (info_renamed f.to) o) ≡ options_in o
-  options_in-renamed None = refl
-  options_in-renamed (Some i) = refl
-
-  pub targets_in-renamed : (o : Option ServerInfo) → targets_in (option_map (info_renamed f.to) o) ≡ map f.to (targets_in o)
-  targets_in-renamed None = refl
-  targets_in-renamed (Some i) = refl
-
   is_root_at-renamed : (n : Name) (o : Option ServerInfo) → is_root_at (f.to n) (option_map (info_renamed f.to) o) ≡ is_root_at n o
   is_root_at-renamed n None = refl
   is_root_at-renamed n (Some i) = same_name-renamed f n i.root
@@ -66,9 +58,6 @@ module _ (f : OtherNames) where
   module _ (w : World) (n : Name) where
     pub info_at-renamed : info_at (renamed f w) (f.to n) ≡ option_map (info_renamed f.to) (info_at w n)
     info_at-renamed = ap (info_in (renamed f w).servers) (home_at-renamed f w n) ∙ info_in-renamed w (home_at w n)
-
-    pub targets_at-renamed : targets_at (renamed f w) (f.to n) ≡ map f.to (targets_at w n)
-    targets_at-renamed = ap targets_in info_at-renamed ∙ targets_in-renamed (info_at w n)
 
     pub shape_at-renamed : shape_at (nodes_of (renamed f w)) (f.to n) ≡ shape_at (nodes_of w) n
     shape_at-renamed = ap shape_by info_at-renamed ∙ shape_by-renamed (info_at w n)
