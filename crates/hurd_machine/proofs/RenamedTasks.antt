@@ -31,13 +31,11 @@ module _ (f : OtherNames) where
 
   pub nodes_of-renamed : (r : Right) → nodes_named (right_renamed f.to r) ≡ map f.to (nodes_named r)
   nodes_of-renamed (Io r) = ap (◌∷◌ (f.to r.node)) (ways_of-renamed r.parents)
-  nodes_of-renamed (Control s) = refl
-  nodes_of-renamed (Start n) = refl
+  nodes_of-renamed r = refl
 
   pub names_open-renamed : (o : Name) (r : Right) → names_open (f.to o) (right_renamed f.to r) ≡ names_open o r
   names_open-renamed o (Io r) = same_name-renamed f r.open_name o
-  names_open-renamed o (Control s) = refl
-  names_open-renamed o (Start n) = refl
+  names_open-renamed o r = refl
 
   pub names_server-renamed : (s : Name) (r : Right) → names_server (f.to s) (right_renamed f.to r) ≡ names_server s r
   names_server-renamed s (Io r) = refl
@@ -168,8 +166,7 @@ module _ (f : OtherNames) where
   module _ (w : World) where
     uses_server-renamed : (s : Name) (r : Right) → is_on (renamed f w) (f.to s) (right_renamed f.to r) ≡ is_on w s r
     uses_server-renamed s (Io r) = is_home_in-renamed f w.sites s r.node
-    uses_server-renamed s (Control q) = refl
-    uses_server-renamed s (Start n) = refl
+    uses_server-renamed s r = refl
 
     -- how many rights there are on nodes of a server
     pub users-renamed : (s : Name) → users (renamed f w) (f.to s) ≡ users w s
