@@ -1,6 +1,6 @@
 -- The laws of one step, from those of each call: each call has a line.
 use Rattle.std.proofs.Common.{ℕ, sym}
-use Rattle.hurd_machine.proofs.Common.{AttrOf, BodyOf, Call, EmptyOf, EndsOf, OpenOf, OptionsOf, Part, TaskOf, TextOf, TotalOf, UsersOf, World, box_in}
+use Rattle.hurd_machine.proofs.Common.{Call, Part, TaskOf, World, box_in}
 use Rattle.hurd_machine.specs.declared.call.Call.TheVariants.{PortDeallocate, PortSend, PortReceive, AuthMakeauth, DirLookup, IoRead, IoWrite, IoSeek, IoStat, IoReadable, IoGetOpenmodes, IoSetAllOpenmodes, IoDuplicate, IoReauthenticate, IoRestrictAuth, IoIdentity, FileSetSize, FileChmod, FileChown, FileCheckAccess, FileSetTranslator, FileGetTranslator, FileGetTranslatorCntl, FileGetcontrol, FsysStartup, StartFailed, FsysGetroot, FsysGoaway, FsysGetOptions, FsysSetOptions, DirReaddir, DirMkdir, DirRmdir, DirUnlink, DirLink, DirMkfile, DirRename}
 use Rattle.hurd_machine.proofs.Frame.{IsUnnamed, gone_kept}
 use Rattle.hurd_machine.proofs.CallLaws.{CallLaws, returning_laws}
@@ -70,16 +70,8 @@ laws_of t c = returning_laws t (λ w. row w t c) (λ w. touches w t c) (box_in c
 
 -- what has a name that was given is not new
 pub old_named : (w : World) (p : Part) → IsOld w p → IsUnnamed w p → ⊥
-old_named w (AttrOf n) old new = new old
-old_named w (EmptyOf n) old new = new old
-old_named w (BodyOf n) old new = new old
-old_named w (EndsOf n) old new = new old
-old_named w (OpenOf o) old new = new old
-old_named w (OptionsOf s) old new = new old
-old_named w (TextOf s) old new = new old
-old_named w (UsersOf s) old new = new old
-old_named w (TotalOf s) old new = new old
 old_named w (TaskOf t) old new = new
+old_named w p old new = new old
 
 pub changes_touched : ChangesTouched
 changes_touched w t c p s old out other = call.changes_touched t _ _ (laws_of t c) w p s (old_named w p old) out other

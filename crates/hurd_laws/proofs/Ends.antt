@@ -44,21 +44,13 @@ gone_or w (EndsOf n) = one_or (λ a. cc (a)) (λ c. cc (c)) (none_or (ends_at w 
 gone_or w (OptionsOf s) = one_or (λ a. cc (a)) (λ c. cc (c)) (none_or (option_map faced (server_at w s)))
 gone_or w (TextOf s) = one_or (λ a. cc (a)) (λ c. cc (c)) (none_or (option_map (λ (i : ServerInfo). i.text) (server_at w s)))
 gone_or w (TotalOf s) = one_or (λ a. cc (a)) (λ c. cc (c)) (none_or (total_at w s))
-gone_or w (OpenOf o) = inr (λ c. c)
-gone_or w (UsersOf s) = inr (λ c. c)
-gone_or w (TaskOf t) = inr (λ c. c)
+gone_or w p = inr (λ c. c)
 
 gone_same : (w x : World) (p : Part) → IsGone w p → IsGone x p → part x p ≡ part w p
-gone_same w x (AttrOf n) a b = b ∙ sym a
-gone_same w x (EmptyOf n) a b = b ∙ sym a
-gone_same w x (BodyOf n) a b = b ∙ sym a
-gone_same w x (EndsOf n) a b = b ∙ sym a
-gone_same w x (OptionsOf s) a b = b ∙ sym a
-gone_same w x (TextOf s) a b = b ∙ sym a
-gone_same w x (TotalOf s) a b = b ∙ sym a
 gone_same w x (OpenOf o) a b = absurd a
 gone_same w x (UsersOf s) a b = absurd a
 gone_same w x (TaskOf t) a b = absurd a
+gone_same w x p a b = b ∙ sym a
 
 module _ (w : World) (p : Part) (T : Part → Type 0) (out : T p → ⊥) where
   settled : (x : World) → Coherent x → Linked (nodes_of x) → part x p ≡ part w p → Stays w (settle x) p

@@ -9,7 +9,7 @@ use Rattle.hurd_machine.proofs.Common.{Call, Change, DropServer, EditBody, EditH
 use Rattle.hurd_machine.specs.declared.call.Setting.{Setting}
 use Rattle.hurd_machine.specs.Change.{letting_go, retexting}
 use Rattle.hurd_machine.specs.Plan.{returning}
-use Rattle.hurd_machine.specs.declared.call.Call.TheVariants.{PortDeallocate, PortSend, PortReceive, AuthMakeauth, DirLookup, IoRead, IoWrite, IoSeek, IoSetAllOpenmodes, IoDuplicate, IoReauthenticate, IoRestrictAuth, FileSetSize, FileChmod, FileChown, FileSetTranslator, FileGetTranslatorCntl, FileGetcontrol, FsysStartup, StartFailed, FsysGetroot, FsysGoaway, FsysSetOptions, DirMkdir, DirRmdir, DirUnlink, DirLink, DirMkfile, DirRename}
+use Rattle.hurd_machine.specs.declared.call.Call.TheVariants.{PortDeallocate, DirLookup, IoRead, IoWrite, FileSetSize, FileSetTranslator, FileGetTranslatorCntl, FileGetcontrol, FsysStartup, StartFailed, FsysGetroot, FsysGoaway, FsysSetOptions, DirMkdir, DirRmdir, DirUnlink, DirLink, DirMkfile, DirRename}
 use Rattle.hurd_machine.proofs.Frame.{IsExact}
 use Rattle.hurd_machine.proofs.Permits.{AllExact}
 use Rattle.hurd_machine.proofs.Asks.{answered_all}
@@ -123,20 +123,10 @@ retexting_plain w s i (Some text) = cons tt (edits (sizing_unless (keeps_tree i.
 
 row_ends : (w : World) (t : ℕ) (c : Call) → Ends (row w t c).changes
 row_ends w t (PortDeallocate p) = ends_answered _ _ (λ r. ends_cons tt (ends_then (letting_plain (open_of r)) settle_ends))
-row_ends w t (PortSend p q) = ends_answered _ _ (λ r. Never (tt, tt))
-row_ends w t PortReceive = ends_answered _ _ (λ x. Never (tt, tt))
-row_ends w t (AuthMakeauth ids) = ends_answered _ _ (λ x. Never (tt, tt))
 row_ends w t (DirLookup p path flags mode) = ends_answered _ _ (λ l. lookup_ends t l.1 _ l.0)
 row_ends w t (IoRead p amount offset) = ends_answered _ _ (λ a. ends_answered _ _ (λ d. never (both (edits (edits_of a.node (Ok d))) (moved_all Plain none (λ o f. cons tt none) a.offset a.is_stream a.open_name _))))
 row_ends w t (IoWrite p bytes offset) = ends_answered _ _ (λ a. ends_answered _ _ (λ d. never (both (edits (edits_of a.node (Ok d))) (moved_all Plain none (λ o f. cons tt none) a.offset a.is_stream a.open_name _))))
-row_ends w t (IoSeek p offset whence) = ends_answered _ _ (λ s. Never (tt, tt))
-row_ends w t (IoSetAllOpenmodes p flags) = ends_answered _ _ (λ a. Never (tt, tt))
-row_ends w t (IoDuplicate p) = ends_answered _ _ (λ a. Never (tt, tt))
-row_ends w t (IoReauthenticate p) = ends_answered _ _ (λ a. Never (tt, tt))
-row_ends w t (IoRestrictAuth p ids) = ends_answered _ _ (λ a. Never (tt, tt))
 row_ends w t (FileSetSize p size) = ends_answered _ _ (λ n. ends_answered _ _ (λ d. never (edits (edits_of n (Ok d)))))
-row_ends w t (FileChmod p mode) = ends_answered _ _ (λ n. Never (tt, tt))
-row_ends w t (FileChown p owner group) = ends_answered _ _ (λ n. Never (tt, tt))
 row_ends w t (FileSetTranslator p f words box) = ends_answered _ _ (λ n.
     by_bool (λ b. Ends (setting_where b w t f words box n).changes) (Never tt) (ends_answered _ _ (λ old. ends_answered _ _ (λ targets. seated_ends w t n f words box old targets))) (sets_nothing f))
 row_ends w t (FileGetTranslatorCntl p) = ends_answered _ _ (λ s. ends_answered _ _ (λ x. Never (tt, tt)))
@@ -154,7 +144,7 @@ row_ends w t (DirLink p name q) = ends_answered _ _ (λ n. ends_answered _ _ (λ
 row_ends w t (DirRename p name q new) = ends_answered _ _ (λ r.
     by_option (λ o. Ends (renames name new r o)) (ends_cons tt (ends_cons tt (ends_cons tt settle_ends)))
     (λ m. by_bool (λ b. Ends (if b then [] else EditBody r.to (without_entry new) ∷ EditHeader m unlinked ∷ moves name new r)) (Never tt) (ends_cons tt (ends_cons tt (ends_cons tt (ends_cons tt (ends_cons tt settle_ends))))) (same_name m r.node)) r.old)
-row_ends w t c = ends_answered _ _ (λ a. Never tt)
+row_ends w t c = ends_answered _ _ (λ a. Never search)
 
 ends_returned : (o : Option Meaning) (P : Plan) → Ends P.changes → Ends (returning o P).changes
 ends_returned None P e = e

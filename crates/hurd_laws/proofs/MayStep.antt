@@ -1,26 +1,23 @@
 -- The law that a step changes only what its caller may change, from what each call touches: each call has a line.
 use Rattle.std.proofs.Common.{◌≡◌, ◌≢◌, ◌⊎◌, ℕ, Bool, true, [], ◌∷◌, refl, ap, sym, subst, inl, inr}
 use Rattle.std.specs.Prelude.{Result, Ok, Err}
-use Rattle.hurd_machine.proofs.Common.{Call, Errno, Nothing, Part, Plan, Right, Send, Sound, TaskOf, World, after_plan, answered, part, with_sent}
+use Rattle.hurd_machine.proofs.Common.{Call, Errno, Part, Plan, Right, Send, Sound, TaskOf, World, after_plan, answered, part, with_sent}
 use Rattle.hurd_machine.specs.declared.call.Reply.TheVariants.{Done}
 use Rattle.hurd_ports.proofs.TaskLaws.{edit-here, one_or_other}
 use Rattle.hurd_core.specs.Core.{send_asks}
 use Rattle.hurd_rights.specs.Rights.{plan_send}
 use Rattle.hurd_laws.specs.Laws.{IsOld}
-use Rattle.hurd_machine.specs.declared.call.Call.TheVariants.{PortDeallocate, PortSend, PortReceive, AuthMakeauth, DirLookup, IoRead, IoWrite, IoSeek, IoStat, IoReadable, IoGetOpenmodes, IoSetAllOpenmodes, IoDuplicate, IoReauthenticate, IoRestrictAuth, IoIdentity, FileSetSize, FileChmod, FileChown, FileCheckAccess, FileSetTranslator, FileGetTranslator, FileGetTranslatorCntl, FileGetcontrol, FsysStartup, StartFailed, FsysGetroot, FsysGoaway, FsysGetOptions, FsysSetOptions, DirReaddir, DirMkdir, DirRmdir, DirUnlink, DirLink, DirMkfile, DirRename}
+use Rattle.hurd_machine.specs.declared.call.Call.TheVariants.{PortDeallocate, PortSend, DirLookup, IoRead, IoWrite, IoSeek, IoSetAllOpenmodes, IoDuplicate, IoReauthenticate, IoRestrictAuth, FileSetSize, FileChmod, FileChown, FileSetTranslator, FsysStartup, FsysGetroot, FsysGoaway, FsysSetOptions, DirMkdir, DirRmdir, DirUnlink, DirLink, DirMkfile, DirRename}
 use Rattle.hurd_laws.specs.Step.{plan, touches, after}
 use Rattle.hurd_laws.specs.Integrity.{IsDelivered, IsLost, MayChange}
 use Rattle.hurd_laws.proofs.Assembled.{laws_of, old_named}
 use Rattle.hurd_laws.proofs.Ends.{Stays, ends_stays}
 use Rattle.hurd_laws.proofs.EndsStep.{plan_ends}
 use Rattle.hurd_machine.proofs.Frame.{Full}
-use Rattle.hurd_laws.proofs.Authority.{Allowed, deallocate_may, send_may, sent_held, read_may, write_may, seek_may, set_openmodes_may, share_may, set_size_may, chmod_may, chown_may}
+use Rattle.hurd_laws.proofs.Authority.{deallocate_may, send_may, sent_held, read_may, write_may, seek_may, set_openmodes_may, share_may, set_size_may, chmod_may, chown_may}
 use Rattle.hurd_laws.proofs.MayDirs.{mkdir_may, mkfile_may, unlink_may, rmdir_may, link_may, rename_may}
 use Rattle.hurd_laws.proofs.MayServers.{goaway_may, set_options_may, set_translator_may, startup_may}
 use Rattle.hurd_laws.proofs.MayLookup.{lookup_may, getroot_may}
-
-nothing_may : (t : ℕ) → Allowed t (λ w. Nothing)
-nothing_may t S w s ours p on = absurd on
 
 -- the task to which a call sends
 abbrev SendsTo : Call → Part → Type 0
@@ -30,41 +27,29 @@ SendsTo c k = ⊥
 touches_may : (t : ℕ) (c : Call) (S : ℕ → Bool) (w : World) → Sound w → S t ≡ true → (k : Part) → touches w t c k → MayChange S w k ⊎ SendsTo c k
 touches_may t (PortDeallocate p) S w s ours k on = inl (deallocate_may t p S w s ours k on)
 touches_may t (PortSend p q) S w s ours k on = send_may t p q.0 S w ours k on
-touches_may t PortReceive S w s ours k on = inl (nothing_may t S w s ours k on)
-touches_may t (AuthMakeauth ids) S w s ours k on = inl (nothing_may t S w s ours k on)
 touches_may t (DirLookup p path flags mode) S w s ours k on = inl (lookup_may t p path flags mode S w s ours k on)
 touches_may t (IoRead p amount offset) S w s ours k on = inl (read_may t p amount offset S w s ours k on)
 touches_may t (IoWrite p bytes offset) S w s ours k on = inl (write_may t p bytes offset S w s ours k on)
 touches_may t (IoSeek p offset whence) S w s ours k on = inl (seek_may t p offset whence S w s ours k on)
-touches_may t (IoStat p) S w s ours k on = inl (nothing_may t S w s ours k on)
-touches_may t (IoReadable p) S w s ours k on = inl (nothing_may t S w s ours k on)
-touches_may t (IoGetOpenmodes p) S w s ours k on = inl (nothing_may t S w s ours k on)
 touches_may t (IoSetAllOpenmodes p flags) S w s ours k on = inl (set_openmodes_may t p flags S w s ours k on)
 touches_may t (IoDuplicate p) S w s ours k on = inl (share_may t p S w s ours k on)
 touches_may t (IoReauthenticate p) S w s ours k on = inl (share_may t p S w s ours k on)
 touches_may t (IoRestrictAuth p ids) S w s ours k on = inl (share_may t p S w s ours k on)
-touches_may t (IoIdentity p q) S w s ours k on = inl (nothing_may t S w s ours k on)
 touches_may t (FileSetSize p size) S w s ours k on = inl (set_size_may t p size S w s ours k on)
 touches_may t (FileChmod p mode) S w s ours k on = inl (chmod_may t p mode S w s ours k on)
 touches_may t (FileChown p owner group) S w s ours k on = inl (chown_may t p owner group S w s ours k on)
-touches_may t (FileCheckAccess p) S w s ours k on = inl (nothing_may t S w s ours k on)
 touches_may t (FileSetTranslator p setting words server) S w s ours k on = inl (set_translator_may t p setting server S w s ours k on)
-touches_may t (FileGetTranslator p) S w s ours k on = inl (nothing_may t S w s ours k on)
-touches_may t (FileGetTranslatorCntl p) S w s ours k on = inl (nothing_may t S w s ours k on)
-touches_may t (FileGetcontrol p) S w s ours k on = inl (nothing_may t S w s ours k on)
 touches_may t (FsysStartup server) S w s ours k on = inl (startup_may t server S w s ours k on)
-touches_may t StartFailed S w s ours k on = inl (nothing_may t S w s ours k on)
 touches_may t (FsysGetroot c dir flags) S w s ours k on = inl (getroot_may t c dir flags S w s ours k on)
 touches_may t (FsysGoaway c flags) S w s ours k on = inl (goaway_may t c flags S w s ours k on)
-touches_may t (FsysGetOptions c) S w s ours k on = inl (nothing_may t S w s ours k on)
 touches_may t (FsysSetOptions c words) S w s ours k on = inl (set_options_may t c words S w s ours k on)
-touches_may t (DirReaddir p) S w s ours k on = inl (nothing_may t S w s ours k on)
 touches_may t (DirMkdir p name mode) S w s ours k on = inl (mkdir_may t p name mode S w s ours k on)
 touches_may t (DirMkfile p flags mode) S w s ours k on = inl (mkfile_may t p flags mode S w s ours k on)
 touches_may t (DirRmdir p name) S w s ours k on = inl (rmdir_may t p name S w s ours k on)
 touches_may t (DirUnlink p name) S w s ours k on = inl (unlink_may t p name S w s ours k on)
 touches_may t (DirLink p name q) S w s ours k on = inl (link_may t p name q S w s ours k on)
 touches_may t (DirRename p name q new) S w s ours k on = inl (rename_may t p name q new S w s ours k on)
+touches_may t c S w s ours k on = absurd on
 
 -- one's own task one may change
 own_may : (S : ℕ → Bool) (w : World) (t : ℕ) → S t ≡ true → (p : Part) → (MayChange S w p → ⊥) → p ≢ TaskOf t

@@ -10,7 +10,7 @@ use Rattle.hurd_nodes.proofs.Sites.{active-apart, active-edited_apart, active-ke
 use Rattle.hurd_nodes.specs.Held.{new_site}
 use Rattle.hurd_nodes.specs.Shown.{is_other}
 use Rattle.hurd_ports.specs.Steps.{named, with_sent}
-use Rattle.hurd_machine.proofs.Common.{Attach, Change, Coherent, DropServer, EditBody, EditHeader, EditOpen, EditTask, Header, LetGo, Linked, MakeNode, MakeOpen, Name, Node, Send, ServerInfo, SetText, Settle, Unseat, World, active_at, apply, apply_all, body_at, get, insert, task_at}
+use Rattle.hurd_machine.proofs.Common.{Attach, Change, Coherent, DropServer, EditBody, EditHeader, EditTask, Header, Linked, MakeNode, MakeOpen, Name, Node, Send, ServerInfo, Settle, Unseat, World, active_at, apply, apply_all, body_at, get, insert, task_at}
 use Rattle.hurd_machine.specs.Change.{stays}
 use Rattle.hurd_machine.specs.World.{nodes_of}
 use Rattle.hurd_machine.specs.Sound.{Below}
@@ -173,14 +173,7 @@ below_one x (MakeOpen o z) p n b = below_edit x (apply (MakeOpen o z) x) o.task.
 below_one x (EditTask q f) p n b = below_edit x (apply (EditTask q f) x) q f p.0 refl n b
 below_one x (Send r q) p n b = below_edit x (apply (Send r q) x) q (with_sent r) (λ y. omega arith) refl n b
 below_one x (Attach s at i node) p n b = below_edit x (apply (Attach s at i node) x) s.task.0 (named 2) (λ y. omega arith) refl n b
-below_one x (EditHeader m f) p n b = b
-below_one x (EditBody m g) p n b = b
-below_one x (EditOpen o f) p n b = b
-below_one x (LetGo o) p n b = b
-below_one x (DropServer s) p n b = b
-below_one x (Unseat m) p n b = b
-below_one x (SetText s text) p n b = b
-below_one x Settle p n b = b
+below_one x c p n b = b
 
 pub below_all : (cs : List Change) (x : World) → Coherent x → AllProper x cs → (n : Name) → Below x n → Below (apply_all cs x) n
 below_all [] x c p n b = b
@@ -255,12 +248,7 @@ module _ (S : ℕ → Bool) (w : World) where
           let here = kept_was (stays y n) (get y.nodes n) q (sym ((sweep_left y cy ly).nodes n) ∙ f) in
           let k = old q here.0 in
           (k.0, active-kept y.sites (stays y) n ∙ ap (λ (o : Bool). cond o (active_at y n) None) here.1 ∙ k.1)
-  before x (MakeOpen o y) c p n b reason z e = unchanged e (λ out same. refl)
-  before x (EditOpen o f) c p n b reason z e = unchanged e (λ out same. refl)
-  before x (LetGo o) c p n b reason z e = unchanged e (λ out same. refl)
-  before x (EditTask q f) c p n b reason z e = unchanged e (λ out same. refl)
-  before x (Send r q) c p n b reason z e = unchanged e (λ out same. refl)
-  before x (SetText s text) c p n b reason z e = unchanged e (λ out same. refl)
+  before x k c p n b reason z e = unchanged e (λ out same. refl)
 
   -- all of them
 

@@ -8,7 +8,7 @@ use Rattle.hurd_machine.proofs.Common.{Call, Change, DropServer, EditBody, EditH
 use Rattle.hurd_machine.specs.declared.call.Setting.{Setting}
 use Rattle.hurd_machine.specs.Change.{letting_go, retexting}
 use Rattle.hurd_machine.specs.Plan.{returning}
-use Rattle.hurd_machine.specs.declared.call.Call.TheVariants.{PortDeallocate, PortSend, PortReceive, AuthMakeauth, DirLookup, IoRead, IoWrite, IoSeek, IoSetAllOpenmodes, IoDuplicate, IoReauthenticate, IoRestrictAuth, FileSetSize, FileChmod, FileChown, FileSetTranslator, FileGetTranslatorCntl, FileGetcontrol, FsysStartup, StartFailed, FsysGetroot, FsysGoaway, FsysSetOptions, DirMkdir, DirRmdir, DirUnlink, DirLink, DirMkfile, DirRename}
+use Rattle.hurd_machine.specs.declared.call.Call.TheVariants.{PortDeallocate, DirLookup, IoRead, IoWrite, FileSetSize, FileChmod, FileChown, FileSetTranslator, FileGetTranslatorCntl, FileGetcontrol, FsysStartup, StartFailed, FsysGetroot, FsysGoaway, FsysSetOptions, DirMkdir, DirRmdir, DirUnlink, DirLink, DirMkfile, DirRename}
 use Rattle.hurd_machine.proofs.Asks.{answered_all}
 use Rattle.hurd_core.specs.declared.to_make.ServerToMake.{ServerToMake}
 use Rattle.hurd_core.specs.Core.{attaching, leaving, starting_over}
@@ -184,9 +184,6 @@ module _ (S : ℕ → Bool) (w : World) where
   module _ (co : Coherent w) (t : ℕ) (ours : S t ≡ true) where
     row_reasons : (c : Call) → Reasons S w (row w t c).changes
     row_reasons (PortDeallocate p) = reasoned _ _ (λ r is. cons tt (both (letting_reasons (open_of r)) settling))
-    row_reasons (PortSend p q) = reasoned _ _ (λ r is. AreReasoned (tt, tt))
-    row_reasons PortReceive = reasoned _ _ (λ x is. AreReasoned (tt, tt))
-    row_reasons (AuthMakeauth ids) = reasoned _ _ (λ x is. AreReasoned (tt, tt))
     row_reasons (DirLookup p path flags mode) = reasoned _ _ (λ l is. lookup_reasons t l.1 _ l.0 (lookup_finds t p path flags mode S w ours l is))
     row_reasons (IoRead p amount offset) = reasoned _ _ (λ a is. reasoned _ _ (λ d told.
         let h = read_handle w t p offset a is in
@@ -196,11 +193,6 @@ module _ (S : ℕ → Bool) (w : World) where
         let h = write_handle w t p offset a is in
         let held = subst (λ n. HasOpen S w n WRITE) h.node (has_open t ours p WRITE h.handle h.is_handle) in
         both (effect a.node d (λ changes. Written held)) (moved_all (Reasons S w) none (λ o f. cons tt none) a.offset a.is_stream a.open_name _)))
-    row_reasons (IoSeek p offset whence) = reasoned _ _ (λ s is. AreReasoned (tt, tt))
-    row_reasons (IoSetAllOpenmodes p flags) = reasoned _ _ (λ a is. AreReasoned (tt, tt))
-    row_reasons (IoDuplicate p) = reasoned _ _ (λ a is. AreReasoned (tt, tt))
-    row_reasons (IoReauthenticate p) = reasoned _ _ (λ a is. AreReasoned (tt, tt))
-    row_reasons (IoRestrictAuth p ids) = reasoned _ _ (λ a is. AreReasoned (tt, tt))
     row_reasons (FileSetSize p size) = reasoned _ _ (λ m is. reasoned _ _ (λ d told. effect m d (λ changes. Written (set_size_open t ours p m is))))
     row_reasons (FileChmod p mode) = reasoned _ _ (λ a is. cons (attrs_by (chmod_owns t ours p owns (λ ids b h. h) a is) _ _ _) none)
     row_reasons (FileChown p owner group) = reasoned _ _ (λ a is. cons (attrs_by (chmod_owns t ours p (gives owner group) (giver_owns owner group) a is) _ _ _) none)
@@ -223,7 +215,7 @@ module _ (S : ℕ → Bool) (w : World) where
         by_option_is (λ o. Reasons S w (renames name new r o)) r.old (λ e. cons (take_by name r.node by.takes) (cons (move_by (takes_node by.takes) r.to) (cons (enter_by by.comes new r.node) settling)))
         (λ m e. by_bool_is (λ b. Reasons S w (if b then [] else EditBody r.to (without_entry new) ∷ EditHeader m unlinked ∷ moves name new r)) (same_name m r.node) (λ same. none)
         (λ apart. cons (take_by new m (by.gives m e apart)) (cons (unlink_by (takes_node (by.gives m e apart))) (cons (take_by name r.node by.takes) (cons (move_by (takes_node by.takes) r.to) (cons (enter_by by.comes new r.node) settling)))))))
-    row_reasons c = reasoned _ _ (λ a is. none)
+    row_reasons c = reasoned _ _ (λ a is. AreReasoned search)
 
     returned_reasons : (o : Option Meaning) (P : Plan) → Reasons S w P.changes → Reasons S w (returning o P).changes
     returned_reasons None P k = k

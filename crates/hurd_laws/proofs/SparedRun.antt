@@ -1,7 +1,7 @@
 -- What stays over a run: each call leaves a part that is spared, or it goes unseen; and a file that its callers are apart from.
 use Rattle.std.proofs.Common.{◌≡◌, ◌≢◌, ◌⊎◌, ◌∙◌, ℕ, Bool, true, false, List, [], ◌∷◌, Some, refl, sym, ap, subst, inl, inr}
 use Rattle.hurd_creds.specs.declared.attrs.Kind.TheVariants.{Dir}
-use Rattle.hurd_machine.proofs.Common.{AttrOf, BodyOf, Call, EmptyOf, EndsOf, Header, Name, Node, OpenOf, OptionsOf, Part, Sound, TaskOf, TextOf, TotalOf, UsersOf, World, body_at, get, header_at, part}
+use Rattle.hurd_machine.proofs.Common.{AttrOf, BodyOf, Call, Header, Name, Node, Part, Sound, TaskOf, World, body_at, get, header_at, part}
 use Rattle.hurd_machine.specs.Sound.{Below}
 use Rattle.hurd_machine.proofs.Coherence.{header_old}
 use Rattle.hurd_machine.proofs.Frame.{gone_kept}
@@ -22,42 +22,18 @@ below_after : (w : World) (t : ℕ) (c : Call) → Sound w → (n : Name) → Be
 below_after w t c s = let q = ((laws_of t c).piece w s).piece in below_all (plan w t c).changes w s.coherent q.proper
 
 old_after : (w : World) (t : ℕ) (c : Call) → Sound w → (p : Part) → IsOld w p → IsOld (after w t c) p
-old_after w t c s (AttrOf n) old = below_after w t c s n old
-old_after w t c s (EmptyOf n) old = below_after w t c s n old
-old_after w t c s (BodyOf n) old = below_after w t c s n old
-old_after w t c s (EndsOf n) old = below_after w t c s n old
-old_after w t c s (OpenOf o) old = below_after w t c s o old
-old_after w t c s (OptionsOf q) old = below_after w t c s q old
-old_after w t c s (TextOf q) old = below_after w t c s q old
-old_after w t c s (UsersOf q) old = below_after w t c s q old
-old_after w t c s (TotalOf q) old = below_after w t c s q old
 old_after w t c s (TaskOf q) old = tt
+old_after w t c s p old = below_after w t c s _ old
 
 -- parts
 
 no_task : (p : Part) (t : ℕ) → IsThing p → p ≢ TaskOf t
 no_task (TaskOf q) t thing e = thing
-no_task (AttrOf n) t thing e = absurd (cc (e))
-no_task (EmptyOf n) t thing e = absurd (cc (e))
-no_task (BodyOf n) t thing e = absurd (cc (e))
-no_task (EndsOf n) t thing e = absurd (cc (e))
-no_task (OpenOf o) t thing e = absurd (cc (e))
-no_task (OptionsOf s) t thing e = absurd (cc (e))
-no_task (TextOf s) t thing e = absurd (cc (e))
-no_task (UsersOf s) t thing e = absurd (cc (e))
-no_task (TotalOf s) t thing e = absurd (cc (e))
+no_task p t thing e = absurd (cc (e))
 
 not_delivered : (S : ℕ → Bool) (w x : World) (p : Part) → IsThing p → IsDelivered S w x p → ⊥
 not_delivered S w x (TaskOf q) thing d = thing
-not_delivered S w x (AttrOf n) thing d = d
-not_delivered S w x (EmptyOf n) thing d = d
-not_delivered S w x (BodyOf n) thing d = d
-not_delivered S w x (EndsOf n) thing d = d
-not_delivered S w x (OpenOf o) thing d = d
-not_delivered S w x (OptionsOf s) thing d = d
-not_delivered S w x (TextOf s) thing d = d
-not_delivered S w x (UsersOf s) thing d = d
-not_delivered S w x (TotalOf s) thing d = d
+not_delivered S w x p thing d = d
 
 module _ (S : ℕ → Bool) where
   -- one call

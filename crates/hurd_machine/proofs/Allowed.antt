@@ -37,8 +37,7 @@ may_inside S v x (Start n) m = m
 -- the ids of a right that S may get
 abbrev pub IdsMay : (ℕ → Bool) → World → Right → Type 0
 IdsMay S v (Io r) = Taken S v r.ids
-IdsMay S v (Control s) = Unit {0}
-IdsMay S v (Start n) = Unit {0}
+IdsMay S v r = Unit {0}
 
 -- the rights of a task z of S in place of a
 abbrev pub OwnMay : (ℕ → Bool) → World → World → Task → Task → Type 0

@@ -148,9 +148,6 @@ module _ (w : World) (c : Coherent w) (s at : Name) (i : ServerInfo) (node : Nod
   info_same n apart = ap (info_in y.servers) (home-edited standing.sites at (Some s) n)
       ∙ info_apart (named_world w c s p.next 2) (named_coherent w c s p.next 2) i.root s node (insert w.servers s i) root_below no_root (unnoded w c s p.next 2 i.root root_new) (unaimed w c s p.next 2 i.root root_new) p.shape p.empty no_parent serves n apart
 
-  pub header_yet : (n : Name) (h : Header) → n ≢ i.root → header_at y n ≡ Some h → header_at w n ≡ Some h
-  header_yet n h apart e = sym (ap header_in (get_apart w.nodes i.root node n apart)) ∙ e
-
   pub standing_coherent : Coherent standing
   standing_coherent = made_coherent (named_world w c s p.next 2) (named_coherent w c s p.next 2) i.root s node (insert w.servers s i) root_below no_root (unnoded w c s p.next 2 i.root root_new) (unaimed w c s p.next 2 i.root root_new) p.shape p.empty no_parent serves
 

@@ -73,9 +73,7 @@ whole o p f t = absurd (cc)
 -- with another text
 
 pub face-with_text : (text : List ℕ) (o : Option ServerInfo) → face_in (option_map (with_text text) o) ≡ option_map (λ (i : ServerInfo). faced (with_text text i)) (face_in o)
-face-with_text text None = refl
-face-with_text text (Some i) = refl
+face-with_text text = by_option _ _ refl (λ x. refl)
 
 pub text-with_text : (text : List ℕ) (o : Option ServerInfo) → text_in (option_map (with_text text) o) ≡ option_map (λ (old : List ℕ). text) (text_in o)
-text-with_text text None = refl
-text-with_text text (Some i) = refl
+text-with_text text = by_option _ _ refl (λ x. refl)

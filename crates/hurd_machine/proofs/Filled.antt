@@ -14,7 +14,7 @@ use Rattle.hurd_trans_iface.specs.declared.begun.ServerKind.{ServerKind}
 use Rattle.hurd_machine.specs.World.{nodes_of}
 use Rattle.hurd_machine.proofs.Stays.{sweep, info_still}
 use Rattle.hurd_machine.proofs.Sweeps.{settle_by}
-use Rattle.hurd_machine.proofs.Nodes.{edited_from}
+use Rattle.hurd_machine.proofs.Nodes.{by_option, edited_from}
 use Rattle.hurd_machine.proofs.Spaces.{effect_fits}
 use Rattle.hurd_machine.proofs.Coherence.{was}
 use Rattle.hurd_machine.proofs.Keeping.{apply_all-append}
@@ -81,12 +81,10 @@ filled_by w y n f here apart info fit sized m z i e ei =
 -- what a server makes of a node
 
 option_map-twice : (f g : Node → Node) (o : Option Node) → option_map g (option_map f o) ≡ option_map (λ x. g (f x)) o
-option_map-twice f g None = refl
-option_map-twice f g (Some x) = refl
+option_map-twice f g = by_option _ _ refl (λ x. refl)
 
 option_map-same : (o : Option Node) → option_map (λ (x : Node). let y : Node = record { header = x.header; body = x.body } in y) o ≡ o
-option_map-same None = refl
-option_map-same (Some x) = refl
+option_map-same = by_option _ _ refl (λ x. refl)
 
 -- the node with its bytes and its size left so
 abbrev left_of : Option (List ℕ → List ℕ) → Option ℕ → Node → Node
@@ -114,9 +112,8 @@ module _ (w : World) (n : Name) where
 
   left_info : (bytes : Option (List ℕ → List ℕ)) (size : Option ℕ) (m : Name) → info_at (left_world n bytes size w) m ≡ info_at w m
   left_info None None m = refl
-  left_info None (Some k) m = refl
   left_info (Some f) None m = refl
-  left_info (Some f) (Some k) m = refl
+  left_info bytes size m = refl
 
   filled_left : (bytes : Option (List ℕ → List ℕ)) (size : Option ℕ) → ((x : Node) → get w.nodes n ≡ Some x → IsFit (info_at w n) (left_of bytes size x)) → AreFilled (nodes_of w) → AreFilled (nodes_of (left_world n bytes size w))
   filled_left bytes size = filled_by w (left_world n bytes size w) n (left_of bytes size) (left_here bytes size) (left_apart bytes size) (left_info bytes size)

@@ -10,7 +10,7 @@ use Rattle.hurd_ports.proofs.TaskLaws.{edit-apart, edit-length}
 use Rattle.hurd_machine.specs.Change.{settle, next_nodes, next_sites, next_opens, next_tasks}
 use Rattle.hurd_machine.proofs.Nodes.{attr_same, header_in, body_in, empty_in, header-with_body, body-with_header, edit_keeps, KeepsEmptiness, empty-kept, by_option}
 use Rattle.hurd_machine.proofs.Tasks.{count_edit, count_named, count_sent}
-use Rattle.hurd_machine.proofs.Coherence.{next_not, no_home, no_open, settled_apart, Proper, AllProper, no_node}
+use Rattle.hurd_machine.proofs.Coherence.{IsPlain, next_not, no_home, no_open, settled_apart, Proper, AllProper, no_node}
 use Rattle.hurd_machine.proofs.Keeping.{coherent_one}
 use Rattle.hurd_machine.proofs.Views.{Agree, Agree-trans}
 use Rattle.hurd_machine.specs.Touched.{Goes}
@@ -30,8 +30,7 @@ pub record Moved (T : Part → Type 0) (w : World) (x z : Task) : Type 0 where
 -- what a right that comes or goes touches is among T
 abbrev pub Covers : (Part → Type 0) → World → Right → Type 0
 Covers T w (Io r) = T (OpenOf r.open_name) × ((s : Name) → home_at w r.node ≡ Some s → T (UsersOf s))
-Covers T w (Control s) = Unit {0}
-Covers T w (Start n) = Unit {0}
+Covers T w r = Unit {0}
 
 -- a header that counts for as much as before in the total of its server, if that keeps a tree; or the total is among T
 abbrev pub Recounts : (Part → Type 0) → World → Name → (Header → Header) → Type 0
@@ -85,14 +84,6 @@ abbrev pub IsExact : Change → Type 0
 IsExact Settle = ⊥
 IsExact c = Unit {0}
 
--- all but settling, and those by which servers come, go or lose their seat
-abbrev pub IsPlain : Change → Type 0
-IsPlain (Attach s at i node) = ⊥
-IsPlain (DropServer s) = ⊥
-IsPlain (Unseat n) = ⊥
-IsPlain Settle = ⊥
-IsPlain c = Unit {0}
-
 -- what such a change leaves of the world, part by part
 
 abbrev next_servers : Change → NameMap ServerInfo → NameMap ServerInfo
@@ -117,13 +108,11 @@ next_is c w p = refl
 
 pub not_on : (w : World) (s : Name) (r : Right) (T : Part → Type 0) → Covers T w r → (T (UsersOf s) → ⊥) → is_on w s r ≡ false
 not_on w s (Io r) T i h = not_home s (home_at w r.node) (λ e. h (i.1 s e))
-not_on w s (Control q) T i h = refl
-not_on w s (Start n) T i h = refl
+not_on w s r T i h = refl
 
 pub not_named : (w : World) (o : Name) (r : Right) (T : Part → Type 0) → Covers T w r → (T (OpenOf o) → ⊥) → names_open o r ≡ false
 not_named w o (Io r) T i h = same_name-apart r.open_name o (λ e. h (subst (λ z. T (OpenOf z)) e i.0))
-not_named w o (Control q) T i h = refl
-not_named w o (Start n) T i h = refl
+not_named w o r T i h = refl
 
 -- what a header counts for is asked after a change of a body as before it
 pub recounts_body : (T : Part → Type 0) (w : World) (d : Name) (g : Body → Body) (n : Name) (f : Header → Header) → Recounts T w n f → Recounts T (apply (EditBody d g) w) n f

@@ -24,8 +24,7 @@ held_still q f ts keeps o h =
   where
     io : (r : Right) (x : Task) → IsAmong r (rights_of x) → names_open o r ≡ true → IsAmong r (rights_of (f x))
     io (Io r) x i passes = keeps x r i
-    io (Control s) x i passes = absurd (cc)
-    io (Start n) x i passes = absurd (cc)
+    io r x i passes = absurd (cc)
 
 -- a change that makes no open, and takes no right away that holds one
 abbrev pub KeepsHeld : Change → Type 0

@@ -93,8 +93,7 @@ module _ (S : ℕ → Bool) (v x y : World) (before : Inside S v x) (cx : Cohere
   -- a right that S may hold is on a node of the same server in both
   same_side : (s : Name) (r : Right) → RightInside S v r → is_on y s r ≡ is_on x s r
   same_side s (Io r) i = ap (is_home s) (home_same r.node (i.nodes r.node (inl refl)))
-  same_side s (Control q) i = refl
-  same_side s (Start n) i = refl
+  same_side s r i = refl
 
   -- counts of the rights of a task that S has, in both
   counts_own : (q : ℕ) (f : Task → Task) (T U : Right → Bool) (a b : Task) → S q ≡ true → task_at x q ≡ Some a → task_at y q ≡ Some b

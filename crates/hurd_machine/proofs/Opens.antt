@@ -42,8 +42,7 @@ fresh_next w t x is = record { seat = x; is_task = is; next = refl }
 -- parts that are said of a right
 pub covers : (T : Part → Type 0) (w : World) (r : Right) → ((p : Part) → OnRight w r p → T p) → Covers T w r
 covers T w (Io r) f = (f (OpenOf r.open_name) (inl refl), λ s e. f (UsersOf s) (inr (s, e, refl)))
-covers T w (Control s) f = tt
-covers T w (Start n) f = tt
+covers T w r f = tt
 
 -- a port with a new open
 
@@ -136,18 +135,15 @@ letting_held y (Start n) held o z at = elim (held o z at) [ inl here ↦ here | 
 
 letting_exact : (r : Right) → AllExact (letting_go (open_of r))
 letting_exact (Io r) = (tt, tt)
-letting_exact (Control s) = tt
-letting_exact (Start n) = tt
+letting_exact r = tt
 
 letting_ports : (r : Right) → AreOfPorts (letting_go (open_of r))
 letting_ports (Io r) = (tt, tt)
-letting_ports (Control s) = tt
-letting_ports (Start n) = tt
+letting_ports r = tt
 
 letting_proper : (y : World) (r : Right) → AllProper y (letting_go (open_of r))
 letting_proper y (Io r) = (tt, λ c. tt)
-letting_proper y (Control s) = tt
-letting_proper y (Start n) = tt
+letting_proper y r = tt
 
 -- the open is of the right's node
 letting_within : (T : Part → Type 0) (w y : World) (r : Right) → nodes_of y ≡ nodes_of w → y.opens ≡ w.opens → ((z : Opened) (q : IoRight) → Io q ≡ r → open_at w q.open_name ≡ Some z → z.node ≡ q.node)
@@ -167,13 +163,11 @@ letting_within T w y (Start n) nodes opens of parts = tt
 
 letting_may : (S : ℕ → Bool) (v y : World) (r : Right) → ((o : Name) → open_of r ≡ Some o → Known S v (OpenOf o)) → AllMay S v y (letting_go (open_of r))
 letting_may S v y (Io r) known = (known r.open_name refl, tt)
-letting_may S v y (Control s) known = tt
-letting_may S v y (Start n) known = tt
+letting_may S v y r known = tt
 
 drop_rights : (w : World) (r : Right) (q : Part) → OnRight w r q → OnDrop w r q
 drop_rights w (Io r) q on = inl on
-drop_rights w (Control s) q on = on
-drop_rights w (Start n) q on = on
+drop_rights w r q on = on
 
 -- what goes with a port: the right, and its open with it
 abbrev leaving : ℕ → ℕ → Right → List Change

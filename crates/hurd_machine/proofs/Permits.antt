@@ -87,9 +87,8 @@ did_exact n d = edits_exact n d.bytes d.size
 -- a directory with one entry more, for a node that S saw or made
 
 filled : (name : List ℕ) (n : Name) (b : Body) → is_empty_dir (with_entry name n b) ≡ false
-filled name n (Content bs) = refl
 filled name n (Listing []) = refl
-filled name n (Listing (e ∷ es)) = refl
+filled name n b = refl
 
 pub entry_added : (name other : List ℕ) (n m : Name) (es : List Entry) → entry_in other (es ++ record { name = name; node = n } ∷ []) ≡ Some m → (entry_in other es ≡ Some m) ⊎ ((bytes_eq name other ≡ true) × (n ≡ m))
 entry_added name other n m [] = go (bytes_eq name other)

@@ -79,19 +79,6 @@ module _ (f : OtherNames) where
   link_of-renamed keeps space name kin None p = refl
   link_of-renamed keeps space name kin (Some d) p = ap (λ r. if not (is_dir d.header.kind) then Err ENOTDIR else if not keeps then Err EROFS else r) (link_in-renamed space name kin d p)
 
-  unlink_of-renamed : (keeps : Bool) (name : List ℕ) (o : Option Node) → unlink_of keeps name (option_map (node_renamed f.to) o) ≡ unlink_of keeps name o
-  unlink_of-renamed keeps name None = refl
-  unlink_of-renamed keeps name (Some d) =
-      ap (λ (there : Bool). if not (is_dir d.header.kind) then Err ENOTDIR else if not keeps then Err EROFS else if there then Ok tt else Err ENOENT) (has_entry-renamed f name d.body)
-
-  rename_to-renamed : (name : List ℕ) (d : Node) (o : Option Node) → rename_to name (node_renamed f.to d) (option_map (node_renamed f.to) o) ≡ rename_to name d o
-  rename_to-renamed name d None = refl
-  rename_to-renamed name d (Some t) = ap (λ (there : Bool). if not (is_dir t.header.kind) then Err ENOTDIR else if there then Ok tt else Err ENOENT) (has_entry-renamed f name d.body)
-
-  rename_of-renamed : (keeps : Bool) (name : List ℕ) (kin : Bool) (o p : Option Node) → rename_of keeps name kin (option_map (node_renamed f.to) o) (option_map (node_renamed f.to) p) ≡ rename_of keeps name kin o p
-  rename_of-renamed keeps name kin None p = refl
-  rename_of-renamed keeps name kin (Some d) p = ap (λ r. if not (is_dir d.header.kind) then Err ENOTDIR else if not keeps then Err EROFS else if kin then r else Err EXDEV) (rename_to-renamed name d p)
-
   set_header_of-renamed : (keeps : Bool) (o : Option Node) → set_header_of keeps (option_map (node_renamed f.to) o) ≡ set_header_of keeps o
   set_header_of-renamed keeps None = refl
   set_header_of-renamed keeps (Some x) = refl
@@ -106,15 +93,6 @@ module _ (f : OtherNames) where
       → link_by name kin (option_map (info_renamed f.to) i) space (option_map (node_renamed f.to) o) (option_map (node_renamed f.to) p) ≡ link_by name kin i space o p
   link_by-renamed name kin None space o p = refl
   link_by-renamed name kin (Some i) space o p = link_of-renamed (keeps_tree i.kind) space name kin o p
-
-  unlink_by-renamed : (name : List ℕ) (i : Option ServerInfo) (o : Option Node) → unlink_by name (option_map (info_renamed f.to) i) (option_map (node_renamed f.to) o) ≡ unlink_by name i o
-  unlink_by-renamed name None o = refl
-  unlink_by-renamed name (Some i) o = unlink_of-renamed (keeps_tree i.kind) name o
-
-  rename_by-renamed : (name : List ℕ) (kin : Bool) (i : Option ServerInfo) (o p : Option Node)
-      → rename_by name kin (option_map (info_renamed f.to) i) (option_map (node_renamed f.to) o) (option_map (node_renamed f.to) p) ≡ rename_by name kin i o p
-  rename_by-renamed name kin None o p = refl
-  rename_by-renamed name kin (Some i) o p = rename_of-renamed (keeps_tree i.kind) name kin o p
 
   edit_by-renamed : (i : Option ServerInfo) (o : Option Node) → edit_by (option_map (info_renamed f.to) i) (option_map (node_renamed f.to) o) ≡ edit_by i o
   edit_by-renamed None o = refl
@@ -147,14 +125,6 @@ module _ (f : OtherNames) where
     links_at-renamed d name n =
         rw (info_at-renamed f w d, space_at-renamed f w d, node_at-renamed f w d, node_at-renamed f w n, kin_at-renamed f w d n)
         (link_by-renamed name (are_kin (home_at w d) (home_at w n)) (info_at w d) (space_at w d) (get w.nodes d) (get w.nodes n))
-
-    pub unlinks_at-renamed : (d : Name) (name : List ℕ) → unlinks_at (renamed f w) (f.to d) name ≡ unlinks_at w d name
-    unlinks_at-renamed d name = rw (info_at-renamed f w d, node_at-renamed f w d) (unlink_by-renamed name (info_at w d) (get w.nodes d))
-
-    pub renames_at-renamed : (d : Name) (name : List ℕ) (e : Name) → renames_at (renamed f w) (f.to d) name (f.to e) ≡ renames_at w d name e
-    renames_at-renamed d name e =
-        rw (info_at-renamed f w d, node_at-renamed f w d, node_at-renamed f w e, kin_at-renamed f w d e)
-        (rename_by-renamed name (are_kin (home_at w d) (home_at w e)) (info_at w d) (get w.nodes d) (get w.nodes e))
 
     pub sets_attrs_at-renamed : (n : Name) → sets_attrs_at (renamed f w) (f.to n) ≡ sets_attrs_at w n
     sets_attrs_at-renamed n = rw (info_at-renamed f w n, node_at-renamed f w n) (edit_by-renamed (info_at w n) (get w.nodes n))

@@ -119,9 +119,6 @@ module _ (f : OtherNames) where
         get-retained (map_renamed f.to g m) q (f.to n) ∙ rw (same n, get-renamed m n) (kept (p n) (fin.get m n)) ∙ ap (option_map g) (sym (get-retained m p n)))
         (λ n y is. origin m n y (was_retained (map_renamed f.to g m) q n y is).0)
 
-    pub empty-renamed : map_renamed f.to g fin.empty ≡ fin.empty
-    empty-renamed = is_renamed fin.empty fin.empty (λ n. fin.get-empty name_cmp (f.to n) ∙ ap (option_map g) (sym (fin.get-empty name_cmp n))) (λ q y is. let none = fin.get-empty {X = Y} name_cmp q in absurd (cc))
-
     -- where each value weighs as much, all of them do
 
     first_of_two : (a b : Bool) → T (a && b) → T a

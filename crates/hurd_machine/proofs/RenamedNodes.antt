@@ -7,11 +7,11 @@ use Rattle.hurd_trans_iface.specs.Nodes.{Entry, content_in}
 use Rattle.hurd_machine.proofs.Common.{Body, Content, Listing, Name, NameMap, Node, Site, World, active_at, are_kin, body_at, boot_name, entry_in, entry_of, get, header_at, home_at, home_in, is_dir, is_empty_dir, is_entered_at, is_home, is_listed, is_of, is_one, is_taken, list_any, lists, lists_at, names_of, node_at, passive_of, same_name, site_at, words_at, words_in}
 use Rattle.hurd_machine.specs.Renamed.{OtherNames, body_renamed, entry_renamed, header_renamed, map_renamed, node_renamed, renamed, site_renamed}
 use Rattle.hurd_machine.proofs.RenamedMaps.{get-renamed, same_name-renamed}
+use Rattle.hurd_machine.proofs.Nodes.{by_option}
 
 -- whether something is there doesn't depend on what it is made
 pub is_some-mapped : {A B : Type 0} (g : A → B) (o : Option A) → is_some (option_map g o) ≡ is_some o
-is_some-mapped g None = refl
-is_some-mapped g (Some x) = refl
+is_some-mapped g = by_option _ _ refl (λ x. refl)
 
 module _ (f : OtherNames) where
   -- names that may not be there
@@ -24,10 +24,6 @@ module _ (f : OtherNames) where
   are_kin-renamed None p = refl
   are_kin-renamed (Some s) None = refl
   are_kin-renamed (Some s) (Some q) = same_name-renamed f s q
-
-  pub is_one-renamed : (n : Name) (o : Option Name) → is_one (f.to n) (option_map f.to o) ≡ is_one n o
-  is_one-renamed n None = refl
-  is_one-renamed n (Some m) = same_name-renamed f n m
 
   pub is_listed-renamed : (n : Name) (ns : List Name) → is_listed (f.to n) (map f.to ns) ≡ is_listed n ns
   is_listed-renamed n [] = refl
@@ -70,14 +66,8 @@ module _ (f : OtherNames) where
   names_of-renamed (Some (Listing es)) = ap Ok (entry_names es)
 
   pub is_empty_dir-renamed : (b : Body) → is_empty_dir (body_renamed f.to b) ≡ is_empty_dir b
-  is_empty_dir-renamed (Content bs) = refl
   is_empty_dir-renamed (Listing []) = refl
-  is_empty_dir-renamed (Listing (e ∷ es)) = refl
-
-  pub content_in-renamed : (b : Option Body) → content_in (option_map (body_renamed f.to) b) ≡ content_in b
-  content_in-renamed None = refl
-  content_in-renamed (Some (Content bs)) = refl
-  content_in-renamed (Some (Listing es)) = refl
+  is_empty_dir-renamed b = refl
 
   entries_of : (n : Name) (es : List Entry) → list_any (is_of (f.to n)) (map (entry_renamed f.to) es) ≡ list_any (is_of n) es
   entries_of n [] = refl
@@ -94,20 +84,16 @@ module _ (f : OtherNames) where
   -- what is told of a node that may not be there
 
   header_of_renamed : (o : Option Node) → option_map (λ (x : Node). x.header) (option_map (node_renamed f.to) o) ≡ option_map (header_renamed f.to) (option_map (λ (x : Node). x.header) o)
-  header_of_renamed None = refl
-  header_of_renamed (Some x) = refl
+  header_of_renamed = by_option _ _ refl (λ x. refl)
 
   body_of_renamed : (o : Option Node) → option_map (λ (x : Node). x.body) (option_map (node_renamed f.to) o) ≡ option_map (body_renamed f.to) (option_map (λ (x : Node). x.body) o)
-  body_of_renamed None = refl
-  body_of_renamed (Some x) = refl
+  body_of_renamed = by_option _ _ refl (λ x. refl)
 
   pub passive_of-renamed : (o : Option Node) → passive_of (option_map (node_renamed f.to) o) ≡ passive_of o
-  passive_of-renamed None = refl
-  passive_of-renamed (Some x) = refl
+  passive_of-renamed = by_option _ _ refl (λ x. refl)
 
   words_in-renamed : (o : Option Node) → words_in (option_map (node_renamed f.to) o) ≡ words_in o
-  words_in-renamed None = refl
-  words_in-renamed (Some x) = refl
+  words_in-renamed = by_option _ _ refl (λ x. refl)
 
   -- whether a parent is there is no name
   pub is_entered_at-renamed : (o : Option Node) → is_entered_at (option_map (node_renamed f.to) o) ≡ is_entered_at o
@@ -135,12 +121,10 @@ module _ (f : OtherNames) where
   -- sites
 
   home_of : (o : Option Site) → option_map (λ (r : Site). r.home) (option_map (site_renamed f.to) o) ≡ option_map f.to (option_map (λ (r : Site). r.home) o)
-  home_of None = refl
-  home_of (Some r) = refl
+  home_of = by_option _ _ refl (λ x. refl)
 
   active_of : (o : Option Site) → option_and_then (λ (r : Site). r.active) (option_map (site_renamed f.to) o) ≡ option_map f.to (option_and_then (λ (r : Site). r.active) o)
-  active_of None = refl
-  active_of (Some r) = refl
+  active_of = by_option _ _ refl (λ x. refl)
 
   pub home_in-renamed : (sites : NameMap Site) (n : Name) → home_in (map_renamed f.to (site_renamed f.to) sites) (f.to n) ≡ option_map f.to (home_in sites n)
   home_in-renamed sites n = ap (option_map (λ (r : Site). r.home)) (get-renamed f (site_renamed f.to) sites n) ∙ home_of (get sites n)

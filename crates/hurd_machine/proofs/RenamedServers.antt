@@ -10,37 +10,25 @@ use Rattle.hurd_machine.specs.World.{nodes_of, readers_at, readers_in, writers_a
 use Rattle.hurd_machine.specs.Renamed.{OtherNames, header_renamed, info_renamed, map_renamed, node_renamed, open_renamed, renamed}
 use Rattle.hurd_machine.proofs.RenamedMaps.{get-renamed, retain_keys-renamed, same_name-renamed, total-renamed}
 use Rattle.hurd_machine.proofs.RenamedNodes.{home_at-renamed, is_home_in-renamed, is_some-mapped}
+use Rattle.hurd_machine.proofs.Nodes.{by_option}
 
 module _ (f : OtherNames) where
   -- a server that may not be there
 
   pub shape_by-renamed : (o : Option ServerInfo) → shape_by (option_map (info_renamed f.to) o) ≡ shape_by o
-  shape_by-renamed None = refl
-  shape_by-renamed (Some i) = refl
+  shape_by-renamed = by_option _ _ refl (λ x. refl)
 
   pub streams_by-renamed : (o : Option ServerInfo) → streams_by (option_map (info_renamed f.to) o) ≡ streams_by o
-  streams_by-renamed None = refl
-  streams_by-renamed (Some i) = refl
+  streams_by-renamed = by_option _ _ refl (λ x. refl)
 
   pub counts_by-renamed : (o : Option ServerInfo) → counts_by (option_map (info_renamed f.to) o) ≡ counts_by o
-  counts_by-renamed None = refl
-  counts_by-renamed (Some i) = refl
+  counts_by-renamed = by_option _ _ refl (λ x. refl)
 
   pub tree_by-renamed : (o : Option ServerInfo) → tree_by (option_map (info_renamed f.to) o) ≡ tree_by o
-  tree_by-renamed None = refl
-  tree_by-renamed (Some i) = refl
+  tree_by-renamed = by_option _ _ refl (λ x. refl)
 
   pub limit_by-renamed : (o : Option ServerInfo) → limit_by (option_map (info_renamed f.to) o) ≡ limit_by o
-  limit_by-renamed None = refl
-  limit_by-renamed (Some i) = refl
-
-  pub options_in-renamed : (o : Option ServerInfo) → options_in (option_map (info_renamed f.to) o) ≡ options_in o
-  options_in-renamed None = refl
-  options_in-renamed (Some i) = refl
-
-  pub targets_in-renamed : (o : Option ServerInfo) → targets_in (option_map (info_renamed f.to) o) ≡ map f.to (targets_in o)
-  targets_in-renamed None = refl
-  targets_in-renamed (Some i) = refl
+  limit_by-renamed = by_option _ _ refl (λ x. refl)
 
   is_root_at-renamed : (n : Name) (o : Option ServerInfo) → is_root_at (f.to n) (option_map (info_renamed f.to) o) ≡ is_root_at n o
   is_root_at-renamed n None = refl
@@ -66,9 +54,6 @@ module _ (f : OtherNames) where
   module _ (w : World) (n : Name) where
     pub info_at-renamed : info_at (renamed f w) (f.to n) ≡ option_map (info_renamed f.to) (info_at w n)
     info_at-renamed = ap (info_in (renamed f w).servers) (home_at-renamed f w n) ∙ info_in-renamed w (home_at w n)
-
-    pub targets_at-renamed : targets_at (renamed f w) (f.to n) ≡ map f.to (targets_at w n)
-    targets_at-renamed = ap targets_in info_at-renamed ∙ targets_in-renamed (info_at w n)
 
     pub shape_at-renamed : shape_at (nodes_of (renamed f w)) (f.to n) ≡ shape_at (nodes_of w) n
     shape_at-renamed = ap shape_by info_at-renamed ∙ shape_by-renamed (info_at w n)

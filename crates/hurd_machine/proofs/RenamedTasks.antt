@@ -19,13 +19,11 @@ module _ (f : OtherNames) where
 
   pub open_of-renamed : (r : Right) → open_of (right_renamed f.to r) ≡ option_map f.to (open_of r)
   open_of-renamed (Io r) = refl
-  open_of-renamed (Control s) = refl
-  open_of-renamed (Start n) = refl
+  open_of-renamed r = refl
 
   pub io_of-renamed : (r : Right) → io_of (right_renamed f.to r) ≡ option_map (io_renamed f.to) (io_of r)
   io_of-renamed (Io r) = refl
-  io_of-renamed (Control s) = refl
-  io_of-renamed (Start n) = refl
+  io_of-renamed r = refl
 
   pub ways_of-renamed : (ps : List Parent) → ways_of (map (way_renamed f.to) ps) ≡ map f.to (ways_of ps)
   ways_of-renamed [] = refl
@@ -33,13 +31,11 @@ module _ (f : OtherNames) where
 
   pub nodes_of-renamed : (r : Right) → nodes_named (right_renamed f.to r) ≡ map f.to (nodes_named r)
   nodes_of-renamed (Io r) = ap (◌∷◌ (f.to r.node)) (ways_of-renamed r.parents)
-  nodes_of-renamed (Control s) = refl
-  nodes_of-renamed (Start n) = refl
+  nodes_of-renamed r = refl
 
   pub names_open-renamed : (o : Name) (r : Right) → names_open (f.to o) (right_renamed f.to r) ≡ names_open o r
   names_open-renamed o (Io r) = same_name-renamed f r.open_name o
-  names_open-renamed o (Control s) = refl
-  names_open-renamed o (Start n) = refl
+  names_open-renamed o r = refl
 
   pub names_server-renamed : (s : Name) (r : Right) → names_server (f.to s) (right_renamed f.to r) ≡ names_server s r
   names_server-renamed s (Io r) = refl
@@ -106,10 +102,6 @@ module _ (f : OtherNames) where
   pending_at-renamed more None = refl
   pending_at-renamed more (Some x) = refl
 
-  ids_at-renamed : (more : ℕ) (o : Option Task) → ids_at (option_map (task_renamed f.to more) o) ≡ ids_at o
-  ids_at-renamed more None = refl
-  ids_at-renamed more (Some x) = refl
-
   -- of a task that has made no more
 
   none_more : (x : Task) → x.made + 0 ≡ x.made
@@ -123,14 +115,6 @@ module _ (f : OtherNames) where
 
   pub fresh-renamed : (t : ℕ) (x : Task) → fresh t (task_renamed f.to 0 x) ≡ fresh t x
   fresh-renamed t x = ap (name_of t) (none_more x)
-
-  naming_at-renamed : (names : ℕ) (o : Option Task) → naming_at names (option_map (task_renamed f.to 0) o) ≡ naming_at names o
-  naming_at-renamed names None = refl
-  naming_at-renamed names (Some x) = ap (λ (b : Bool). if b then Ok tt else Err EOVERFLOW) (can_name-renamed names x)
-
-  room_at-renamed : (names : ℕ) (o : Option Task) → room_at names (option_map (task_renamed f.to 0) o) ≡ room_at names o
-  room_at-renamed names None = refl
-  room_at-renamed names (Some x) = ap (λ (b : Bool). if b then Ok tt else Err EOVERFLOW) (has_room-renamed names x)
 
   -- in the world
 
@@ -150,19 +134,10 @@ module _ (f : OtherNames) where
     pub pending_of-renamed : pending_of (ports_of (renamed f w)) t ≡ option_map (start_renamed f.to) (pending_of (ports_of w) t)
     pending_of-renamed = ap pending_at task_at-renamed ∙ pending_at-renamed (f.more t) (task_at w t)
 
-    pub task_ids-renamed : ids_at (task_at (renamed f w) t) ≡ ids_at (task_at w t)
-    task_ids-renamed = ap ids_at task_at-renamed ∙ ids_at-renamed (f.more t) (task_at w t)
-
     -- where it has made no more
     module _ (none : f.more t ≡ 0) where
       pub caller-renamed : task_at (renamed f w) t ≡ option_map (task_renamed f.to 0) (task_at w t)
       caller-renamed = task_at-renamed ∙ ap (λ more. option_map (task_renamed f.to more) (task_at w t)) none
-
-      pub naming_of-renamed : (names : ℕ) → naming_of (ports_of (renamed f w)) t names ≡ naming_of (ports_of w) t names
-      naming_of-renamed names = ap (naming_at names) caller-renamed ∙ naming_at-renamed names (task_at w t)
-
-      pub room_of-renamed : (names : ℕ) → room_of (ports_of (renamed f w)) t names ≡ room_of (ports_of w) t names
-      room_of-renamed names = ap (room_at names) caller-renamed ∙ room_at-renamed names (task_at w t)
 
   -- how many rights weigh so much, or pass a test, that goes by other names alike
 
@@ -191,8 +166,7 @@ module _ (f : OtherNames) where
   module _ (w : World) where
     uses_server-renamed : (s : Name) (r : Right) → is_on (renamed f w) (f.to s) (right_renamed f.to r) ≡ is_on w s r
     uses_server-renamed s (Io r) = is_home_in-renamed f w.sites s r.node
-    uses_server-renamed s (Control q) = refl
-    uses_server-renamed s (Start n) = refl
+    uses_server-renamed s r = refl
 
     -- how many rights there are on nodes of a server
     pub users-renamed : (s : Name) → users (renamed f w) (f.to s) ≡ users w s

@@ -30,8 +30,7 @@ users_by w y s ts same = count_alike (is_on y s) (is_on w s) ts on
   where
     on : (t : ℕ) (x : Task) (r : Right) → slice_get ts t ≡ Some x → IsAmong r (rights_of x) → is_on y s r ≡ is_on w s r
     on t x (Io r) at i = same t x r at i
-    on t x (Control q) at i = refl
-    on t x (Start n) at i = refl
+    on t x r at i = refl
 
 -- where a task named a thing and a node got a site under a name that was not given, each server has as many users
 pub users_named : (w y : World) (c : Coherent w) (n : Name) (next : IsNext w n) (k : ℕ) (m : Name) → (Below w m → ⊥) → ((q : Name) → q ≢ m → home_at y q ≡ home_at w q) → y.tasks ≡ edit_task n.task.0 (named k) w.tasks → (q : Name) → users y q ≡ users w q
@@ -55,8 +54,7 @@ unused w s none = count_alike (is_on w s) (λ r. false) w.tasks (λ t x r at i. 
   where
     on : (r : Right) → is_on w s r ≡ false
     on (Io r) = not_home s (home_at w r.node) (none r.node)
-    on (Control q) = refl
-    on (Start n) = refl
+    on r = refl
 
 -- nodes of a server that has none count for nothing
 total_nothing : (w : World) → Coherent w → (s : Name) → (Below w s → ⊥) → own_total w.nodes w.sites s ≡ 0

@@ -37,8 +37,7 @@ no_holders w c o new =
   where
     unnamed : (t : ℕ) (x : Task) (r : Right) → task_at w t ≡ Some x → IsAmong r (rights_of x) → names_open o r ≡ false
     unnamed t x (Io r) at h = same_name-apart r.open_name o (λ e. new (subst (Below w) e (right_old c t x r at h).1))
-    unnamed t x (Control s) at h = refl
-    unnamed t x (Start n) at h = refl
+    unnamed t x r at h = refl
 
 no_users : (w : World) → Coherent w → (s : Name) → (Below w s → ⊥) → users w s ≡ 0
 no_users w c s new = unused w s (λ n e. none_served w c s new n s e refl)
