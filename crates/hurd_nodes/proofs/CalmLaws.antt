@@ -12,16 +12,16 @@ use Rattle.hurd_creds.specs.declared.name.Name.{Name}
 use Rattle.hurd_creds.specs.declared.mode.Mode.{Mode}
 use Rattle.hurd_creds.specs.declared.errno.Errno.{Errno}
 use Rattle.hurd_creds.specs.Names.{name_cmp, same_name}
-use Rattle.hurd_creds.specs.NameMaps.{edit, map_values}
+use Rattle.hurd_creds.specs.NameMaps.{edit}
 use Rattle.hurd_creds.specs.Memory.{Steps, lacks_memory}
 use Rattle.hurd_creds.proofs.NameLaws.{equal_if_same, same_or_apart, edit_here, edit_apart, get_apart, remove_here, remove_apart}
 use Rattle.hurd_creds.proofs.MapLaws.{get-map_values}
 use Rattle.hurd_trans_iface.specs.declared.header_edit.HeaderEdit.{HeaderEdit}
 use Rattle.hurd_trans_iface.specs.declared.header_edit.HeaderEdit.TheVariants.{SetAttrs, SetPassive}
 use Rattle.hurd_trans_iface.specs.Nodes.{AddNode, Edit, Header, Node, NodeMap, OnBody, OnHeader, edit_all, is_entered, is_entered_at, is_listed, linked, with_body, with_header, with_size}
-use Rattle.hurd_trans_iface.specs.Answers.{edits_if, header_edits, link_edits}
-use Rattle.hurd_trans_iface.specs.Behaviour.{Effect, Question, edit_bytes, edit_size, edits_of, effect_on}
-use Rattle.hurd_trans_iface.specs.Meaning.{Meaning, begin_root_after, behaviour_of, edited, forget_after, keeps_tree, new_root, options_taken, resized, set_options_step, size_of, space_of, step_of}
+use Rattle.hurd_trans_iface.specs.Answers.{edits_if, header_edits}
+use Rattle.hurd_trans_iface.specs.Behaviour.{Effect, edit_bytes, edit_size, edits_of}
+use Rattle.hurd_trans_iface.specs.Meaning.{Meaning, begin_root_after, behaviour_of, edited, forget_after, keeps_tree, new_root, options_taken, resized, set_options_step, size_of}
 use Rattle.hurd_nodes.specs.declared.seat.Seat.{Seat}
 use Rattle.hurd_nodes.specs.Quiet.{AreCalm, Behind, IsCalm}
 use Rattle.hurd_nodes.proofs.SeatedLaws.{value_got}
@@ -42,7 +42,7 @@ module _ {S : Type 0} (f : S → Meaning) (ss : List (Name × Seat S)) (k i : �
   ]
 
 -- these edits take no entry from a node
-abbrev KeepAll : List Edit → Type 0
+abbrev pub KeepAll : List Edit → Type 0
 KeepAll [] = Unit {0}
 KeepAll (OnHeader n g ∷ es) = ((h : Header) → is_entered (g h) ≡ false → is_entered h ≡ false) × KeepAll es
 KeepAll (OnBody n g ∷ es) = KeepAll es
@@ -66,16 +66,16 @@ all-keep (OnBody n g ∷ es) keep m q bare = edit-keeps n (with_body g) m (λ x 
 all-keep (AddNode n x ∷ es) keep m q bare = absurd keep
 
 -- so it is where they were made, or memory was wanting
-keeps-or : (short : Bool) (m k : Meaning) (es : List Edit) → KeepAll es → k ≡ cond short m (edited es m) → KeepsEntries m k
+pub keeps-or : (short : Bool) (m k : Meaning) (es : List Edit) → KeepAll es → k ≡ cond short m (edited es m) → KeepsEntries m k
 keeps-or true m k es keep left n bare = sym (ap (λ (x : Meaning). is_entered_at (fin.get x.nodes n)) left) ∙ bare
 keeps-or false m k es keep left n bare = all-keep es keep m.nodes n (sym (ap (λ (x : Meaning). is_entered_at (fin.get x.nodes n)) left) ∙ bare)
 
-keep-if : {T : Type 0} (r : Result T Errno) (es : List Edit) → KeepAll es → KeepAll (edits_if r es)
+pub keep-if : {T : Type 0} (r : Result T Errno) (es : List Edit) → KeepAll es → KeepAll (edits_if r es)
 keep-if (Ok u) es keep = keep
 keep-if (Err e) es keep = tt
 
 -- a question takes none
-asked-keep : {T : Type 0} (n : Name) (e : Effect T) → KeepAll (edits_of n e)
+pub asked-keep : {T : Type 0} (n : Name) (e : Effect T) → KeepAll (edits_of n e)
 asked-keep n (Err e) = tt
 asked-keep n (Ok d) = by d.bytes
   where
@@ -87,26 +87,14 @@ asked-keep n (Ok d) = by d.bytes
     by None = sized d.size
     by (Some g) = sized d.size
 
-pub keeps-asked : {T : Type 0} (q : Question T) (n : Name) (m k : Meaning) (got : Result T Errno) → Steps m (step_of q n m) got k → KeepsEntries m k
-keeps-asked q n m k got steps = let e = effect_on q (behaviour_of m.kind) m.text (space_of m) (fin.get m.nodes n) in keeps-or (lacks_memory got) m k (edits_of n e) (asked-keep n e) steps.left
-
 -- nor does another header by one of the edits that there are
-header-keeps : (n : Name) (e : HeaderEdit) → KeepAll (header_edits n e)
+pub header-keeps : (n : Name) (e : HeaderEdit) → KeepAll (header_edits n e)
 header-keeps n (SetAttrs owner group mode) = (λ h bare. bare, tt)
 header-keeps n (SetPassive words) = (λ h bare. bare, tt)
 
-pub keeps-header : (n : Name) (e : HeaderEdit) (m k : Meaning) (answer got : Result (Unit {0}) Errno)
-    → ◌≡◌ {A = Result (Unit {0}) Errno × Meaning} (got, k) (answer, edited (edits_if answer (header_edits n e)) m) → KeepsEntries m k
-keeps-header n e m k answer got step =
-    keeps-or false m k (edits_if answer (header_edits n e)) (keep-if answer _ (header-keeps n e)) (ap (λ (z : Result (Unit {0}) Errno × Meaning). z.1) step)
-
 -- nor another name
-linked-keeps : (h : Header) → is_entered (linked h) ≡ false → is_entered h ≡ false
+pub linked-keeps : (h : Header) → is_entered (linked h) ≡ false → is_entered h ≡ false
 linked-keeps h bare = grind (arith, common_steps)
-
-pub keeps-link : (dir : Name) (name : List ℕ) (n : Name) (m k : Meaning) (answer got : Result (Unit {0}) Errno) → Steps m (answer, edited (edits_if answer (link_edits dir name n)) m) got k → KeepsEntries m k
-keeps-link dir name n m k answer got steps =
-    keeps-or (lacks_memory got) m k (edits_if answer (link_edits dir name n)) (keep-if answer _ (linked-keeps, tt)) steps.left
 
 -- nor other options
 retexted-keeps : (tree : Bool) (k : ℕ) (m : NodeMap) (n : Name) → is_entered_at (fin.get (resized tree k m) n) ≡ false → is_entered_at (fin.get m n) ≡ false

@@ -1,5 +1,5 @@
 -- Where the box of a node's server has forgotten it: what is shown then, and that boxes hide nothing.
-use Rattle.std.proofs.Common.{arith, ◌≡◌, ◌≢◌, inl, inr, Bool, true, false, cond, if◌then◌else◌, true≢false, refl, sym, ap, ap₂, ◌∙◌}
+use Rattle.std.proofs.Common.{arith, ◌≡◌, ◌≢◌, inl, inr, Bool, true, false, cond, true≢false, refl, sym, ap, ◌∙◌}
 use Rattle.std.proofs.lemmas.Bool.{cases_Bool}
 use Rattle.std.proofs.lemmas.Grind.{common_steps}
 use Rattle.std.proofs.lemmas.Option.{same_Some}
@@ -7,14 +7,13 @@ use Rattle.std.specs.Prelude.{Option, Some, None, is_some}
 use Rattle.std.specs.Option.{option_map}
 use Rattle.std.specs.FinMap as fin
 use Rattle.hurd_creds.specs.declared.name.Name.{Name}
-use Rattle.hurd_creds.specs.Names.{same_name}
 use Rattle.hurd_creds.specs.NameMaps.{NameMap, edit}
 use Rattle.hurd_creds.proofs.NameLaws.{same_map_by, same_or_apart, same_name-itself, get_here, get_apart, remove_here, remove_apart, edit_here, edit_apart}
 use Rattle.hurd_trans_iface.specs.Nodes.{Node, NodeMap}
 use Rattle.hurd_trans_iface.specs.Meaning.{Meaning}
 use Rattle.hurd_nodes.specs.declared.seat.Site.{Site}
 use Rattle.hurd_nodes.specs.Held.{Seated, box_by, home_in, new_site}
-use Rattle.hurd_nodes.specs.Shown.{NodeState, ServerInfo, are_kin, attached, flat, forgotten, forgotten_elsewhere, is_other, node_in, nodes_of, without_old, without_sites}
+use Rattle.hurd_nodes.specs.Shown.{NodeState, ServerInfo, are_kin, attached, flat, forgotten, forgotten_elsewhere, is_other, node_in, nodes_of, servers_of, without_old, without_sites}
 use Rattle.hurd_nodes.proofs.HideLaws.{AreBare, TellsAll, has}
 use Rattle.hurd_nodes.proofs.PartLaws.{get-kept, mapped-some}
 use Rattle.hurd_nodes.proofs.ShownLaws.{get-nodes, kin-home}
@@ -91,62 +90,40 @@ module _ (sites : NameMap Site) (seats : NameMap (Seated Meaning)) (s n : Name) 
 
   -- what it has is shown as before
   kept_home : (o : Option Name) → are_kin o (Some s) ≡ false → node_in n (box_by (forgotten n o seats) (Some s)) ≡ node_in n (box_by seats (Some s))
-  kept_home None far = refl
-  kept_home (Some b) far = ap (λ (u : Option (Seated Meaning)). node_in n (option_map (λ (e : Seated Meaning). e.server) u)) (edit_apart seats b (forget n) s (λ same. true≢false (sym (ap (same_name b) same ∙ same_name-itself b) ∙ far)))
-
-  elsewhere_shown : (o : Option Name) (kin : Bool) → are_kin o (Some s) ≡ kin → flat sites_after (if kin then seats else forgotten n o seats) ≡ flat sites_after seats
-  elsewhere_shown o true near = refl
-  elsewhere_shown o false far = ap₂ (λ (m : NodeMap) (k : NameMap ServerInfo). let h : NodeState = record { nodes = m; sites = sites_after; servers = k } in h) nodes (servers-same sites seats n o)
-    where
-      nodes : nodes_of sites_after (forgotten n o seats) ≡ nodes_of sites_after seats
-      nodes = same_map_by _ _ (λ q. get-nodes sites_after (forgotten n o seats) q ∙ elim (same_or_apart q n) [
-        | inl here ↦ rw (here, home-here sites n (new_site s)) (kept_home o far)
-        | inr apart ↦ other_by sites seats n q apart o (home_in sites_after q)
-      ] ∙ sym (get-nodes sites_after seats q))
+  kept_home o far = grind (arith, common_steps, edit_apart, same_or_apart, same_name-itself)
 
   pub made-shown : (o : Option Name) → flat sites_after (forgotten_elsewhere n o (Some s) seats) ≡ flat sites_after seats
-  made-shown o = elsewhere_shown o (are_kin o (Some s)) refl
+  made-shown o = elim (cases_Bool (are_kin o (Some s))) [
+    | inl near ↦ rw near refl
+    | inr far ↦ rw (far, servers-same sites seats n o) (ap (λ (m : NodeMap). let h : NodeState = record { nodes = m; sites = sites_after; servers = servers_of seats } in h)
+        (same_map_by _ _ (λ q. get-nodes sites_after (forgotten n o seats) q ∙ elim (same_or_apart q n) [
+          | inl here ↦ rw (here, home-here sites n (new_site s)) (kept_home o far)
+          | inr apart ↦ other_by sites seats n q apart o (home_in sites_after q)
+        ] ∙ sym (get-nodes sites_after seats q))))
+  ]
 
   -- another box doesn't have it, and hides nothing
-
-  elsewhere_tells : TellsAll sites seats → (kin : Bool) → are_kin (home_in sites n) (Some s) ≡ kin → TellsAll sites (if kin then seats else forgotten n (home_in sites n) seats)
-  elsewhere_tells tells true near = tells
-  elsewhere_tells tells false far = forgotten-tells sites seats tells n (home_in sites n)
-
-  elsewhere_bare : TellsAll sites seats → (kin : Bool) → are_kin (home_in sites n) (Some s) ≡ kin → (p : Name) (x : Seated Meaning) → p ≢ s
-      → fin.get (if kin then seats else forgotten n (home_in sites n) seats) p ≡ Some x → has x.server.nodes n ≡ false
-  elsewhere_bare tells true near p x other is = elim (cases_Bool (has x.server.nodes n)) [
-    | inl there ↦ absurd (other (same_Some p s (sym (tells p n x is there) ∙ sym (kin-home (home_in sites n) (Some s) near))))
-    | inr none ↦ none
-  ]
-  elsewhere_bare tells false far p x other is = forgotten-bare sites seats tells n (home_in sites n) refl p x is
-
-  elsewhere_own : (o : Option Name) (kin : Bool) → are_kin o (Some s) ≡ kin → fin.get (if kin then seats else forgotten n o seats) s ≡ fin.get seats s
-  elsewhere_own o true near = refl
-  elsewhere_own None false far = refl
-  elsewhere_own (Some b) false far = edit_apart seats b (forget n) s (λ same. true≢false (sym (ap (same_name b) same ∙ same_name-itself b) ∙ far))
-
-  elsewhere_put : (o : Option Name) (e : Seated Meaning) (kin : Bool) → are_kin o (Some s) ≡ kin
-      → (if kin then fin.insert seats s e else forgotten n o (fin.insert seats s e)) ≡ fin.insert (if kin then seats else forgotten n o seats) s e
-  elsewhere_put o e true near = refl
-  elsewhere_put None e false far = refl
-  elsewhere_put (Some b) e false far = same_map_by _ _ (λ q. grind (arith, common_steps, same_or_apart, get_here, get_apart, edit_here, edit_apart, apart))
-    where
-      apart : s ≢ b
-      apart same = true≢false (sym (ap (same_name b) same ∙ same_name-itself b) ∙ far)
-
   module _ (tells : TellsAll sites seats) where
     abbrev o : Option Name
     o = home_in sites n
 
     pub elsewhere-tells : TellsAll sites (forgotten_elsewhere n o (Some s) seats)
-    elsewhere-tells = elsewhere_tells tells (are_kin o (Some s)) refl
+    elsewhere-tells = elim (cases_Bool (are_kin o (Some s))) [
+      | inl near ↦ rw near tells
+      | inr far ↦ rw far (forgotten-tells sites seats tells n o)
+    ]
 
     pub elsewhere-bare : (p : Name) (x : Seated Meaning) → p ≢ s → fin.get (forgotten_elsewhere n o (Some s) seats) p ≡ Some x → has x.server.nodes n ≡ false
-    elsewhere-bare = elsewhere_bare tells (are_kin o (Some s)) refl
+    elsewhere-bare p x other is = elim (cases_Bool (are_kin o (Some s))) [
+      | inl near ↦ elim (cases_Bool (has x.server.nodes n)) [
+        | inl there ↦ absurd (other (same_Some p s (sym (tells p n x (rw near at is) there) ∙ sym (kin-home o (Some s) near))))
+        | inr none ↦ none
+      ]
+      | inr far ↦ forgotten-bare sites seats tells n o refl p x (rw far at is)
+    ]
 
   pub elsewhere-own : (o : Option Name) → fin.get (forgotten_elsewhere n o (Some s) seats) s ≡ fin.get seats s
-  elsewhere-own o = elsewhere_own o (are_kin o (Some s)) refl
+  elsewhere-own o = grind (arith, common_steps, edit_apart, same_or_apart, same_name-itself)
 
   pub elsewhere-put : (o : Option Name) (e : Seated Meaning) → forgotten_elsewhere n o (Some s) (fin.insert seats s e) ≡ fin.insert (forgotten_elsewhere n o (Some s) seats) s e
-  elsewhere-put o e = elsewhere_put o e (are_kin o (Some s)) refl
+  elsewhere-put o e = same_map_by _ _ (λ q. grind (arith, common_steps, same_or_apart, get_here, get_apart, edit_here, edit_apart, same_name-itself))

@@ -11,7 +11,7 @@ use Rattle.hurd_nodes.specs.declared.seat.Site.{Site}
 use Rattle.hurd_nodes.specs.Held.{active_in, home_in, is_home, new_site}
 use Rattle.hurd_nodes.specs.Shown.{is_other, with_active, without_sites}
 use Rattle.hurd_nodes.specs.Quiet.{IsQuiet}
-use Rattle.hurd_nodes.proofs.Sites.{active-apart, active-edited_apart, active-here, active-left, active_by, home-apart, home-edited}
+use Rattle.hurd_nodes.proofs.Sites.{active-apart, active-edited_apart, active-left, active_by, home-apart, home-edited, active-inserted, active-was_edited}
 
 module _ {S : Type 0} (sites : NameMap Site) (x : Name × Seat S) (q : IsQuiet sites x) where
   -- it isn't active on a node on which another is, or none
@@ -64,18 +64,10 @@ module _ (sites : NameMap Site) (s root seat : Name) where
 
   -- it is active on one node alone
   pub new-only : ((n : Name) → active_in sites n ≢ Some s) → (n : Name) → active_in then_sites n ≡ Some s → n ≡ seat
-  new-only idle n is = elim (same_or_apart n seat) [
-    | inl here ↦ here
-    | inr far ↦ absurd (rootless (sym (active-edited_apart with_root seat (Some s) n far) ∙ is))
+  new-only idle n is = elim (active-was_edited with_root seat (Some s) n s is) [
+    | inl here ↦ here.0
+    | inr was ↦ absurd (idle n (active-inserted sites root (new_site s) n s refl was))
   ]
-    where
-      rootless : active_in with_root n ≢ Some s
-      rootless at = elim (same_or_apart n root) [
-        | inl here ↦
-            let none : None ≡ Some s = sym (active-here sites root (new_site s)) ∙ ap (active_in with_root) (sym here) ∙ at in
-            absurd (cc)
-        | inr apart ↦ idle n (sym (active-apart sites root (new_site s) n apart) ∙ at)
-      ]
 
   module _ (homeless : (n : Name) → home_in sites n ≢ Some s) where
     -- and its root is its only node

@@ -6,7 +6,7 @@ use Rattle.std.specs.Option.{option_map}
 use Rattle.std.specs.FinMap as fin
 use Rattle.hurd_creds.specs.declared.name.Name.{Name}
 use Rattle.hurd_creds.specs.NameMaps.{NameMap, place_by}
-use Rattle.hurd_creds.proofs.NameLaws.{equal_if_same, same_map_by, same_name-itself}
+use Rattle.hurd_creds.proofs.NameLaws.{same_map_by, same_name-itself}
 use Rattle.hurd_creds.proofs.Retained.{get-retained}
 use Rattle.hurd_trans_iface.specs.Nodes.{Node}
 use Rattle.hurd_trans_iface.specs.Meaning.{Meaning, keeps_tree, space_of}
@@ -16,14 +16,10 @@ use Rattle.hurd_nodes.specs.declared.seat.Seat.{Seat}
 use Rattle.hurd_nodes.specs.Held.{Seated, box_by, home_in, is_home, mean, mean_seat, seat_key, seat_value, seats_of, sites_of}
 use Rattle.hurd_nodes.specs.Shown.{ServerInfo, flat, node_in, nodes_in, nodes_of, servers_of, space_at, space_for, tree_by}
 use Rattle.hurd_nodes.specs.Totals.{total_if, total_of}
+use Rattle.hurd_nodes.proofs.GoneLaws.{own_home}
 use Rattle.hurd_nodes.proofs.HideLaws.{TellsAll}
 use Rattle.hurd_nodes.proofs.SeatLaws.{seat-is}
 use Rattle.hurd_nodes.proofs.ShownLaws.{get-nodes, get-servers}
-
--- a node's home is the server whose home it is
-home_is : (s : Name) (o : Option Name) → is_home s o ≡ true → o ≡ Some s
-home_is s None h = absurd (true≢false (sym h))
-home_is s (Some q) h = ap (λ (p : Name). let r : Option Name = Some p in r) (sym (equal_if_same s q h))
 
 module _ (sites : NameMap Site) (seats : NameMap (Seated Meaning)) (tells : TellsAll sites seats) where
   module _ (s : Name) (e : Seated Meaning) (is : fin.get seats s ≡ Some e) where
@@ -39,7 +35,7 @@ module _ (sites : NameMap Site) (seats : NameMap (Seated Meaning)) (tells : Tell
 
     there : (n : Name) → mine n ≡ true → fin.get (nodes_of sites seats) n ≡ fin.get e.server.nodes n
     there n ours =
-        get-nodes sites seats n ∙ ap (λ o. node_in n (box_by seats o)) (home_is s (home_in sites n) ours)
+        get-nodes sites seats n ∙ ap (λ o. node_in n (box_by seats o)) (own_home s (home_in sites n) ours)
         ∙ ap (λ (o : Option (Seated Meaning)). node_in n (option_map (λ (k : Seated Meaning). k.server) o)) is
 
     kept_or : (n : Name) (b : Bool) → mine n ≡ b → cond b (fin.get (nodes_of sites seats) n) None ≡ fin.get e.server.nodes n

@@ -1,12 +1,11 @@
 -- What a seat tells of its server stays true where sites change.
 use Rattle.std.proofs.Common.{◌≡◌, inl, inr, ℕ, true, [], ◌∷◌, refl, sym, ap, ◌∙◌, true≢false}
 use Rattle.std.specs.Prelude.{Option, Some, None, is_some}
-use Rattle.std.specs.Option.{option_map}
 use Rattle.std.specs.FinMap as fin
 use Rattle.hurd_creds.specs.declared.name.Name.{Name}
 use Rattle.hurd_creds.specs.Names.{name_cmp}
 use Rattle.hurd_creds.specs.NameMaps.{NameMap, edit}
-use Rattle.hurd_creds.proofs.NameLaws.{same_name-itself, same_or_apart, edit_here, remove_here, remove_apart}
+use Rattle.hurd_creds.proofs.NameLaws.{same_name-itself}
 use Rattle.hurd_trans_iface.specs.Nodes.{is_listed}
 use Rattle.hurd_nodes.specs.declared.seat.Seat.{Seat}
 use Rattle.hurd_nodes.specs.declared.seat.Site.{Site}
@@ -14,58 +13,27 @@ use Rattle.hurd_nodes.specs.Held.{active_in, home_in, new_site, sites_of}
 use Rattle.hurd_nodes.specs.Shown.{with_active, without_sites}
 use Rattle.hurd_nodes.specs.Quiet.{Behind, IsTold}
 use Rattle.hurd_nodes.proofs.SeatedLaws.{active-was, known-none, seated-none}
-use Rattle.hurd_nodes.proofs.Sites.{active-apart, active-edited_apart, active-here, active_by, home-apart, home-edited, home-here, home-less, home-less_apart, home-was}
-
--- what is active on an edited site
-pub edited_active : (sites : NameMap Site) (n : Name) (o : Option Name) (s : Name) → active_in (edit n (with_active o) sites) n ≡ Some s → o ≡ Some s
-edited_active sites n o s at = by (fin.get sites n) (sym (ap active_by (edit_here sites n (with_active o))) ∙ at)
-  where
-    by : (u : Option Site) → active_by (option_map (with_active o) u) ≡ Some s → o ≡ Some s
-    by None h = absurd (let none : None ≡ Some s = h in cc)
-    by (Some r) h = h
+use Rattle.hurd_nodes.proofs.Sites.{home-edited, home-was, active-removed, home-removed, active-inserted, home-inserted, active-was_edited}
 
 module _ {S : Type 0} (sites : NameMap Site) (x : Name × Seat S) (t : IsTold sites x) where
   -- without a site
   pub told-less : (n : Name) → IsTold (fin.remove sites n) x
-  told-less n = record {
-    placed = λ m is. elim (same_or_apart m n) [
-      | inl here ↦
-          let none : None ≡ Some x.0 = sym (ap active_by (remove_here sites n)) ∙ ap (active_in (fin.remove sites n)) (sym here) ∙ is in
-          absurd (cc)
-      | inr apart ↦ t.placed m (sym (ap active_by (remove_apart sites n m apart)) ∙ is)
-    ];
-    listed = λ m is. elim (same_or_apart m n) [
-      | inl here ↦
-          let none : None ≡ Some x.0 = sym (home-less sites n) ∙ ap (home_in (fin.remove sites n)) (sym here) ∙ is in
-          absurd (cc)
-      | inr apart ↦ t.listed m (sym (home-less_apart sites n m apart) ∙ is)
-    ];
-  }
+  told-less n = record { placed = λ m is. t.placed m (active-removed sites n m x.0 is); listed = λ m is. t.listed m (home-removed sites n m x.0 is) }
 
   -- with a site of a server, which lists it if the seat is that server's
   pub told-put : (n s : Name) → (s ≡ x.0 → is_listed n (x.1.root ∷ x.1.own.items) ≡ true) → IsTold (fin.insert sites n (new_site s)) x
   told-put n s lists = record {
-    placed = λ m is. elim (same_or_apart m n) [
-      | inl here ↦
-          let none : None ≡ Some x.0 = sym (active-here sites n (new_site s)) ∙ ap (active_in (fin.insert sites n (new_site s))) (sym here) ∙ is in
-          absurd (cc)
-      | inr far ↦ t.placed m (sym (active-apart sites n (new_site s) m far) ∙ is)
-    ];
-    listed = λ m is. elim (same_or_apart m n) [
-      | inl here ↦
-          let same : Some s ≡ Some x.0 = sym (home-here sites n (new_site s)) ∙ ap (home_in (fin.insert sites n (new_site s))) (sym here) ∙ is in
-          ap (λ (q : Name). is_listed q (x.1.root ∷ x.1.own.items)) here ∙ lists (cc)
-      | inr far ↦ t.listed m (sym (home-apart sites n (new_site s) m far) ∙ is)
+    placed = λ m is. t.placed m (active-inserted sites n (new_site s) m x.0 refl is);
+    listed = λ m is. elim (home-inserted sites n (new_site s) m x.0 is) [
+      | inl here ↦ ap (λ (q : Name). is_listed q (x.1.root ∷ x.1.own.items)) here.0 ∙ lists here.1
+      | inr far ↦ t.listed m far.1
     ];
   }
 
   -- with a server active on a node, or none, where the seat says so if it is that server's
   pub told-active : (n : Name) (o : Option Name) → (o ≡ Some x.0 → x.1.at ≡ Some n) → IsTold (edit n (with_active o) sites) x
   told-active n o at = record {
-    placed = λ m is. elim (same_or_apart m n) [
-      | inl here ↦ at (edited_active sites n o x.0 (ap (active_in (edit n (with_active o) sites)) (sym here) ∙ is)) ∙ ap Some (sym here)
-      | inr far ↦ t.placed m (sym (active-edited_apart sites n o m far) ∙ is)
-    ];
+    placed = λ m is. elim (active-was_edited sites n o m x.0 is) [ inl here ↦ at here.1 ∙ ap Some (sym here.0) | inr was ↦ t.placed m was ];
     listed = λ m is. t.listed m (sym (home-edited sites n o m) ∙ is);
   }
 

@@ -1,15 +1,17 @@
 -- What `Nodes` keeps to, where a server's box is another, and where seats change places.
-use Rattle.std.proofs.Common.{◌≡◌, ℕ, List, refl, sym, subst}
-use Rattle.std.specs.Prelude.{Some, slice_get}
+use Rattle.std.proofs.Common.{◌≡◌, ℕ, Bool, true, cond, List, refl, sym, subst}
+use Rattle.std.specs.Prelude.{Result, Some, slice_get}
 use Rattle.std.specs.Map.{values_of}
-use Rattle.std.specs.FinMap as fin
 use Rattle.indexmap.specs.IndexMap.{set_value_at}
 use Rattle.hurd_creds.specs.declared.name.Name.{Name}
 use Rattle.hurd_creds.specs.NameMaps.{NameMap, place_by}
-use Rattle.hurd_trans_iface.specs.Meaning.{Meaning}
+use Rattle.hurd_creds.specs.declared.errno.Errno.{Errno}
+use Rattle.hurd_trans_iface.specs.Nodes.{Edit}
+use Rattle.hurd_trans_iface.specs.Answers.{edits_if}
+use Rattle.hurd_trans_iface.specs.Meaning.{Meaning, edited}
 use Rattle.hurd_nodes.specs.declared.seat.Seat.{Seat}
 use Rattle.hurd_nodes.specs.declared.seat.Site.{Site}
-use Rattle.hurd_nodes.specs.Held.{AreApart, Held, Seated, box_by, held_of, home_in, mean, place_in, put_by, seat_key, seat_value, seats_of, sites_of, with_server_of}
+use Rattle.hurd_nodes.specs.Held.{AreApart, Held, Seated, box_by, held_of, home_in, mean, place_in, seat_key, seats_of, sites_of}
 use Rattle.hurd_nodes.specs.Quiet.{AreAmong, AreCalm, AreForeign, AreOld, Behind}
 use Rattle.hurd_nodes.specs.Shown.{HideNothing, without_server}
 use Rattle.hurd_nodes.specs.Aims.{AreAims}
@@ -17,9 +19,9 @@ use Rattle.hurd_nodes.specs.Tables.{AreKept, AreTables, AreWhole}
 use Rattle.hurd_nodes.proofs.AimLaws.{kept-set}
 use Rattle.hurd_nodes.proofs.AskedLaws.{named-at}
 use Rattle.hurd_nodes.proofs.AttachLaws.{hides-left}
-use Rattle.hurd_nodes.proofs.CalmLaws.{KeepsEntries, calm-put}
-use Rattle.hurd_nodes.proofs.HideLaws.{TellsAll}
-use Rattle.hurd_nodes.proofs.SeatLaws.{box-placed, placed, seat-changed, seat-found}
+use Rattle.hurd_nodes.proofs.CalmLaws.{KeepAll, KeepsEntries, calm-put, keep-if, keeps-or}
+use Rattle.hurd_nodes.proofs.HideLaws.{TellsAll, adds_none, hides-kept, if-adds_none}
+use Rattle.hurd_nodes.proofs.SeatLaws.{box-placed, placed}
 
 -- another box in a server's seat
 pub whole-seat : {S : Type 0} (f : S → Meaning) (rs : List (Name × Site)) (ss : List (Name × Seat S)) (es : List (Name × ℕ)) (k : ℕ) (s : Name) (i : ℕ) (x : Seat S) → Some i ≡ place_by seat_key s ss
@@ -32,24 +34,18 @@ whole-seat f rs ss es k s i x at read w keeps hides whole = record {
 }
 
 -- the box of a node's server, at its place
-module _ {S : Type 0} (f : S → Meaning) (rs : List (Name × Site)) (ss : List (Name × Seat S)) (n : Name) (i : ℕ) (x : Seat S) (at : Some i ≡ place_in ss (home_in (sites_of rs) n))
-    (read : slice_get (values_of ss) i ≡ Some x) where
+module _ {S : Type 0} (f : S → Meaning) (rs : List (Name × Site)) (ss : List (Name × Seat S)) (n : Name) (i : ℕ) (x : Seat S) (at : Some i ≡ place_in ss (home_in (sites_of rs) n)) (read : slice_get (values_of ss) i ≡ Some x) where
   pub box-there : Some (f x.server) ≡ box_by (mean f (seats_of ss)) (home_in (sites_of rs) n)
   box-there = sym (box-placed f ss (home_in (sites_of rs) n) i x at read)
 
-  -- with another in its place
-  pub box-put : (w : S) → seats_of (set_value_at ss i (record x { server = w })) ≡ put_by (seats_of ss) (home_in (sites_of rs) n) w
-  box-put w =
+  -- which edited nodes that are there, and took no entry from one, unless the server is asked
+  pub whole-edited : (w : S) (answer : Result (Unit {0}) Errno) (edits : List Edit) → adds_none edits ≡ true → (short : Bool) → f w ≡ cond short (f x.server) (edited (edits_if answer edits) (f x.server)) → (es : List (Name × ℕ)) (k : ℕ)
+      → ((s : Name) → home_in (sites_of rs) n ≡ Some s → Behind k ss (s, x) → KeepAll edits) → AreWhole f rs ss es k → AreWhole f rs (set_value_at ss i (record x { server = w })) es k
+  whole-edited w answer edits only short left es k keeps whole =
       let p = placed ss _ i at in
-      let h : fin.get (seats_of ss) p.0 ≡ Some (seat_value x) = seat-found ss p.0 i x p.2 read in
-      rw (p.1, h, seat-changed ss p.0 i x p.2 read (record x { server = w })) refl
-
-  pub whole-put : (es : List (Name × ℕ)) (k : ℕ) (w : S) → ((s : Name) → home_in (sites_of rs) n ≡ Some s → Behind k ss (s, x) → KeepsEntries (f x.server) (f w)) → HideNothing f (with_server_of (held_of rs ss) n w)
-      → AreWhole f rs ss es k → AreWhole f rs (set_value_at ss i (record x { server = w })) es k
-  whole-put es k w keeps hides whole =
-      let p = placed ss _ i at in
-      whole-seat f rs ss es k p.0 i x p.2 read w (λ q same b. keeps p.0 p.1 (subst (λ (r : Name). Behind k ss (r, x)) same b))
-      (subst (λ (m : NameMap (Seated S)). let h : Held S = record { sites = sites_of rs; seats = m } in HideNothing f h) (sym (box-put w)) hides) whole
+      whole-seat f rs ss es k p.0 i x p.2 read w
+      (λ q same b. keeps-or short (f x.server) (f w) (edits_if answer edits) (keep-if answer edits (keeps p.0 p.1 (subst (λ (r : Name). Behind k ss (r, x)) same b))) left)
+      (hides-kept f rs ss n i x at read w (edits_if answer edits) (if-adds_none answer edits only) short left whole.hides) whole
 
 -- the same seats in another order
 module _ {S : Type 0} (f : S → Meaning) (rs : List (Name × Site)) (ss ts : List (Name × Seat S)) (es : List (Name × ℕ)) (k l : ℕ) (is : seats_of ts ≡ seats_of ss) (apart : AreApart seat_key ts) (among : AreAmong ss ts)

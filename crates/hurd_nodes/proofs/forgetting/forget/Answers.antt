@@ -1,29 +1,16 @@
-use Rattle.hurd_nodes.specs.Held.{held_of}
 use Rattle.hurd_nodes.proofs.AimLaws.{kept-set}
 use Rattle.hurd_nodes.proofs.CalmLaws.{calm-put, keeps-forgotten}
 use Rattle.hurd_nodes.proofs.OwnLaws.{lists-set}
 use Rattle.hurd_nodes.proofs.SeatLaws.{placed, unplaced}
 use Rattle.hurd_nodes.proofs.TakeLaws.{forget-boxes, forget-none}
-use Rattle.hurd_nodes.proofs.WholeLaws.{box-put, box-there}
 use Rattle.std.proofs.Common.{refl}
 use Rattle.hurd_nodes.proofs.forgetting.forget.Goals as goal
 
 pub returns-in-Some-clause-boxes : goal.returns-in-Some-clause-boxes
-returns-in-Some-clause-boxes g c =
-    let f = g.S.Server.meaning in
-    let rs = c.args.sites.now.entries in
-    let ss = c.args.seats.now.entries in
-    let at = c.in-Some.ensures.is in
-    let read = c.index_mut.ensures.value in
-    rw (box-put f rs ss c.args.node _ _ at read c.forget.new.self)
-    (forget-boxes f (held_of rs ss) c.args.node c.index_mut.result.now.server c.forget.new.self (box-there f rs ss c.args.node _ _ at read) c.forget.ensures)
+returns-in-Some-clause-boxes g c = forget-boxes _ _ _ c.args.node _ _ c.in-Some.ensures.is c.index_mut.ensures.value c.forget.new.self c.forget.ensures
 
 pub returns-in_default-clause-boxes : goal.returns-in_default-clause-boxes
-returns-in_default-clause-boxes g c =
-    let f = g.S.Server.meaning in
-    let rs = c.args.sites.now.entries in
-    let ss = c.args.seats.now.entries in
-    forget-none f (held_of rs ss) c.args.node (unplaced f ss _ c.in_default.ensures.is)
+returns-in_default-clause-boxes g c = forget-none _ c.args.node _ (unplaced _ c.args.seats.now.entries _ c.in_default.ensures.is)
 
 pub returns-in-Some-clause-kept : goal.returns-in-Some-clause-kept
 returns-in-Some-clause-kept g c =
