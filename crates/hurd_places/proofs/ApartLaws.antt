@@ -88,7 +88,7 @@ stem_ends v ok n ns y f stem = record {
   step = last v n y;
   is = f.path ∙ split v n (path_along v ns) (level_along v ns) y stem;
   last = is_last v n y stem;
-  kind = λ nine. kind_small y stem (sym (last_kind v n y stem) ∙ nine);
+  kind = λ nine. kind_small y (sym (last_kind v n y stem) ∙ nine);
   more = not_slash v n y stem;
 }
 
@@ -241,7 +241,7 @@ full_once v ok k n m ns ms apart short small shorter few way_n way_m is = go (is
 
 stems_once : (v : View) (ok : Why → Bool) (k : ℕ) (n m : Name) (ns ms : List Name) (y z : Why) → Apart v ok → Shorter v ok k → k ≤ 2 ^ 63 → length ns ≤ k → length ms < 2 ^ 63
     → Found v ok n ns y → Found v ok m ms z → is_stem y ≡ true → is_stem z ≡ true → path_along v (n ∷ ns) ≡ path_along v (m ∷ ms) → n ≡ m
-stems_once v ok k n m ns ms y z apart short small shorter few f g stem_y stem_z paths = go y z f g fronts lasts (alike y z stem_y stem_z kinds)
+stems_once v ok k n m ns ms y z apart short small shorter few f g stem_y stem_z paths = go y z f g fronts lasts (alike y z stem_y kinds)
   where
     both : (front v n (path_along v ns) (level_along v ns) y ≡ front v m (path_along v ms) (level_along v ms) z) × (last v n y ≡ last v m z)
     both =
