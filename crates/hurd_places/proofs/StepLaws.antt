@@ -8,6 +8,7 @@ use Rattle.hurd_words.specs.Printing.{spaced, text_if}
 use Rattle.hurd_sentences.specs.Spelling.{spelled_name}
 use Rattle.hurd_sentences.proofs.Bytes.{all_both, first_same}
 use Rattle.hurd_sentences.proofs.SpellsBack.{spells_back}
+use Rattle.hurd_sight.specs.Found.{found_from}
 use Rattle.hurd_sight.specs.declared.found.Why.{Why}
 use Rattle.hurd_sight.specs.declared.found.Why.TheVariants as why
 use Rattle.hurd_views.specs.Views.{row_at}
@@ -187,36 +188,38 @@ pub kind_small : (y : Why) → kind y ≡ 9 → ⊥
 kind_small why.Root is = omega (arith, is)
 kind_small _ is = omega (arith, is)
 
--- two of one kind
-pub data Alike : Why → Why → Type 0 where
-  BothHeld : Alike why.Held why.Held
-  BothWay : Alike why.Way why.Way
-  BothControlled : Alike why.Controlled why.Controlled
-  BothPending : Alike why.Pending why.Pending
-  BothChild : (d e : Name) → Alike (why.Child d) (why.Child e)
-  BothParent : (d e : Name) → Alike (why.Parent d) (why.Parent e)
-  BothServerRoot : (d e : Name) → Alike (why.ServerRoot d) (why.ServerRoot e)
-  BothTarget : (d e : Name) → Alike (why.Target d) (why.Target e)
-
-pub alike : (y z : Why) → is_stem y ≡ true → kind y ≡ kind z → Alike y z
-alike why.Root z stem is = absurd (true≢false (sym stem))
-alike (why.Active m) z stem is = absurd (true≢false (sym stem))
-alike why.Held why.Held stem is = BothHeld
-alike why.Way why.Way stem is = BothWay
-alike why.Controlled why.Controlled stem is = BothControlled
-alike why.Pending why.Pending stem is = BothPending
-alike (why.Child d) (why.Child e) stem is = BothChild d e
-alike (why.Parent d) (why.Parent e) stem is = BothParent d e
-alike (why.ServerRoot d) (why.ServerRoot e) stem is = BothServerRoot d e
-alike (why.Target d) (why.Target e) stem is = BothTarget d e
-alike _ _ stem is = absurd (omega (arith, is))
-
 -- a step by an entry says its name
-pub child_once : (names others path more : List ℕ) → child_front names path ≡ child_front others more → child_last names ≡ child_last others → (path ≡ more) × (names ≡ others)
-child_once [] [] path more fronts lasts = (append_cancel_right path more (47 ∷ []) fronts, refl)
-child_once [] (c ∷ cs) path more fronts lasts = let first = ap (λ (t : List ℕ). get_or t 0 0) lasts in absurd (omega (arith, first))
-child_once (b ∷ bs) [] path more fronts lasts = let first = ap (λ (t : List ℕ). get_or t 0 0) lasts in absurd (omega (arith, first))
-child_once (b ∷ bs) (c ∷ cs) path more fronts lasts = (fronts, spells_back true (b ∷ bs) (c ∷ cs) (first_same 47 47 (spelled_name (b ∷ bs)) (spelled_name (c ∷ cs)) lasts).1)
+
+pub child_name : (names others : List ℕ) → child_last names ≡ child_last others → names ≡ others
+child_name [] [] lasts = refl
+child_name [] (c ∷ cs) lasts = let first = ap (λ (t : List ℕ). get_or t 0 0) lasts in absurd (omega (arith, first))
+child_name (b ∷ bs) [] lasts = let first = ap (λ (t : List ℕ). get_or t 0 0) lasts in absurd (omega (arith, first))
+child_name (b ∷ bs) (c ∷ cs) lasts = spells_back true (b ∷ bs) (c ∷ cs) (first_same 47 47 (spelled_name (b ∷ bs)) (spelled_name (c ∷ cs)) lasts).1
+
+child_path : (names others path more : List ℕ) → names ≡ others → child_front names path ≡ child_front others more → path ≡ more
+child_path names others path more same fronts = go names (fronts ∙ ap (λ (name : List ℕ). child_front name more) (sym same))
+  where
+    go : (name : List ℕ) → child_front name path ≡ child_front name more → path ≡ more
+    go [] is = append_cancel_right path more (47 ∷ []) is
+    go (b ∷ bs) is = is
+
+-- steps that are alike have one reason, where the nodes from which they go are told apart
+pub one_why : (v : View) (n m : Name) (p q : List ℕ) (k j : ℕ) (y z : Why) → is_stem y ≡ true → kind y ≡ kind z → front v n p k y ≡ front v m q j z → last v n y ≡ last v m z
+    → ((d e : Name) → found_from y ≡ Some d → found_from z ≡ Some e → covered_path (is_covered v d) p k ≡ covered_path (is_covered v e) q j → d ≡ e) → y ≡ z
+one_why v n m p q k j why.Root z stem is fronts lasts from = absurd (true≢false (sym stem))
+one_why v n m p q k j (why.Active d) z stem is fronts lasts from = absurd (true≢false (sym stem))
+one_why v n m p q k j why.Held why.Held stem is fronts lasts from = refl
+one_why v n m p q k j why.Way why.Way stem is fronts lasts from = refl
+one_why v n m p q k j why.Controlled why.Controlled stem is fronts lasts from = refl
+one_why v n m p q k j why.Pending why.Pending stem is fronts lasts from = refl
+one_why v n m p q k j (why.Child d) (why.Child e) stem is fronts lasts from =
+    let names = name_in (row_at v.rows d).body n in
+    let others = name_in (row_at v.rows e).body m in
+    ap (λ (x : Name). why.Child x) (from d e refl refl (child_path names others (covered_path (is_covered v d) p k) (covered_path (is_covered v e) q j) (child_name names others lasts) fronts))
+one_why v n m p q k j (why.Parent d) (why.Parent e) stem is fronts lasts from = ap (λ (x : Name). why.Parent x) (from d e refl refl fronts)
+one_why v n m p q k j (why.ServerRoot d) (why.ServerRoot e) stem is fronts lasts from = ap (λ (x : Name). why.ServerRoot x) (from d e refl refl fronts)
+one_why v n m p q k j (why.Target d) (why.Target e) stem is fronts lasts from = ap (λ (x : Name). why.Target x) (from d e refl refl fronts)
+one_why v n m p q k j _ _ stem is fronts lasts from = absurd (omega (arith, is))
 
 -- no step by an entry is a slash alone
 pub not_slash : (v : View) (n : Name) (y : Why) → is_stem y ≡ true → last v n y ≡ 47 ∷ [] → ⊥
