@@ -10,65 +10,49 @@ use Rattle.hurd_views.specs.declared.view.View.{View}
 use Rattle.hurd_places.specs.Places.{beneath, is_covered, level_along, level_by, covered_path, name_in, or_root, path_along, step_by}
 use Rattle.hurd_sentences.proofs.Bytes.{first_same}
 use Rattle.hurd_places.proofs.PlaceLaws.{level_most}
-use Rattle.hurd_places.proofs.StepLaws.{Alike, BothChild, BothControlled, BothHeld, BothParent, BothPending, BothServerRoot, BothTarget, BothWay, IsLast, OfActive, OfRoot, OfStem, Sort, alike, beneath_kind, beneath_last, beneath_once, child_once, cut_same, front, is_last, is_stem, kind, kind_small, last, last_kind, not_slash, sort, split, stem_level, tag}
+use Rattle.hurd_places.proofs.StepLaws.{IsLast, OfActive, OfRoot, OfStem, Sort, beneath_kind, beneath_last, beneath_once, cut_same, front, is_last, is_stem, kind, kind_small, last, last_kind, not_slash, one_why, sort, split, stem_level, tag}
 
 -- a way on which a node was found, of such steps
-abbrev pub IsWay : View → (Why → Bool) → Name → List Name → Type 0
-IsWay v ok n [] = (y : Why) × (why_of n v.sight.found ≡ Some y) × (ok y ≡ true) × (found_from y ≡ None)
-IsWay v ok n (d ∷ ds) = (y : Why) × (why_of n v.sight.found ≡ Some y) × (ok y ≡ true) × (found_from y ≡ Some d) × IsWay v ok d ds
+abbrev pub IsWay : View → Name → List Name → Type 0
+IsWay v n [] = (y : Why) × (why_of n v.sight.found ≡ Some y) × (found_from y ≡ None)
+IsWay v n (d ∷ ds) = (y : Why) × (why_of n v.sight.found ≡ Some y) × (found_from y ≡ Some d) × IsWay v d ds
 
--- what tells nodes apart that were found by such steps
-pub record Apart (v : View) (ok : Why → Bool) : Type 0 where
-  pub root : (n m : Name) → why_of n v.sight.found ≡ Some why.Root → why_of m v.sight.found ≡ Some why.Root → n ≡ m
-  pub child : (d n m : Name) → why_of n v.sight.found ≡ Some (why.Child d) → why_of m v.sight.found ≡ Some (why.Child d)
-      → name_in (row_at v.rows d).body n ≡ name_in (row_at v.rows d).body m → n ≡ m
-  pub active : (d n m : Name) → why_of n v.sight.found ≡ Some (why.Active d) → why_of m v.sight.found ≡ Some (why.Active d) → n ≡ m
+-- what tells nodes apart: their last steps, and that a node is covered from which an active server was found
+pub record Apart (v : View) : Type 0 where
+  pub once : (y : Why) (n m : Name) → why_of n v.sight.found ≡ Some y → why_of m v.sight.found ≡ Some y → last v n y ≡ last v m y → n ≡ m
   pub covered : (d n : Name) → why_of n v.sight.found ≡ Some (why.Active d) → is_covered v d ≡ true
-  pub parent : (d n m : Name) → why_of n v.sight.found ≡ Some (why.Parent d) → why_of m v.sight.found ≡ Some (why.Parent d) → n ≡ m
-  pub server_root : (d n m : Name) → why_of n v.sight.found ≡ Some (why.ServerRoot d) → why_of m v.sight.found ≡ Some (why.ServerRoot d) → n ≡ m
-  pub target : (d n m : Name) → ok (why.Target d) ≡ true → why_of n v.sight.found ≡ Some (why.Target d) → why_of m v.sight.found ≡ Some (why.Target d)
-      → last v n (why.Target d) ≡ last v m (why.Target d) → n ≡ m
-  pub held : (n m : Name) → ok why.Held ≡ true → why_of n v.sight.found ≡ Some why.Held → why_of m v.sight.found ≡ Some why.Held → last v n why.Held ≡ last v m why.Held → n ≡ m
-  pub way : (n m : Name) → ok why.Way ≡ true → why_of n v.sight.found ≡ Some why.Way → why_of m v.sight.found ≡ Some why.Way → last v n why.Way ≡ last v m why.Way → n ≡ m
-  pub controlled : (n m : Name) → ok why.Controlled ≡ true → why_of n v.sight.found ≡ Some why.Controlled → why_of m v.sight.found ≡ Some why.Controlled
-      → last v n why.Controlled ≡ last v m why.Controlled → n ≡ m
-  pub pending : (n m : Name) → ok why.Pending ≡ true → why_of n v.sight.found ≡ Some why.Pending → why_of m v.sight.found ≡ Some why.Pending
-      → last v n why.Pending ≡ last v m why.Pending → n ≡ m
 
 -- the path that goes on from a node
 abbrev pub full : View → Name → List Name → List ℕ
 full v n ns = covered_path (is_covered v n) (path_along v (n ∷ ns)) (level_along v (n ∷ ns))
 
 -- a node's way, by why it was found
-pub record Found (v : View) (ok : Why → Bool) (n : Name) (ns : List Name) (y : Why) : Type 0 where
+pub record Found (v : View) (n : Name) (ns : List Name) (y : Why) : Type 0 where
   pub why : why_of n v.sight.found ≡ Some y
-  pub is_ok : ok y ≡ true
   pub path : path_along v (n ∷ ns) ≡ step_by v n (path_along v ns) (level_along v ns) (Some y)
   pub level : level_along v (n ∷ ns) ≡ level_by (Some y) (level_along v ns)
-  pub from : (d : Name) → found_from y ≡ Some d → (ds : List Name) × (ns ≡ d ∷ ds) × IsWay v ok d ds
+  pub from : (d : Name) → found_from y ≡ Some d → (ds : List Name) × (ns ≡ d ∷ ds) × IsWay v d ds
 
 some_same : (a b : Name) → Some a ≡ Some b → a ≡ b
 some_same a b is = cc
 
-found : (v : View) (ok : Why → Bool) (n : Name) (ns : List Name) → IsWay v ok n ns → (y : Why) × Found v ok n ns y
-found v ok n [] (y, is, fine, none) = (
+found : (v : View) (n : Name) (ns : List Name) → IsWay v n ns → (y : Why) × Found v n ns y
+found v n [] (y, is, none) = (
   y,
   record {
     why = is;
-    is_ok = fine;
     path = ap (λ (z : Option Why). step_by v n [] 0 z) is;
     level = ap (λ (z : Option Why). level_by z 0) is;
     from = λ d some. absurd (cc);
   },
 )
-found v ok n (e ∷ es) (y, is, fine, from, rest) = (
+found v n (e ∷ es) (y, is, from, rest) = (
   y,
   record {
     why = is;
-    is_ok = fine;
     path = ap (λ (z : Option Why). step_by v n (path_along v (e ∷ es)) (level_along v (e ∷ es)) z) is;
     level = ap (λ (z : Option Why). level_by z (level_along v (e ∷ es))) is;
-    from = λ d some. let same = some_same e d (sym from ∙ some) in (es, ap (λ (x : Name). x ∷ es) same, subst (λ (x : Name). IsWay v ok x es) same rest);
+    from = λ d some. let same = some_same e d (sym from ∙ some) in (es, ap (λ (x : Name). x ∷ es) same, subst (λ (x : Name). IsWay v x es) same rest);
   },
 )
 
@@ -82,53 +66,53 @@ pub record Ends (path : List ℕ) : Type 0 where
   pub kind : tag step ≡ 9 → ⊥
   pub more : step ≡ 47 ∷ [] → ⊥
 
-stem_ends : (v : View) (ok : Why → Bool) (n : Name) (ns : List Name) (y : Why) → Found v ok n ns y → is_stem y ≡ true → Ends (path_along v (n ∷ ns))
-stem_ends v ok n ns y f stem = record {
+stem_ends : (v : View) (n : Name) (ns : List Name) (y : Why) → Found v n ns y → is_stem y ≡ true → Ends (path_along v (n ∷ ns))
+stem_ends v n ns y f stem = record {
   before = front v n (path_along v ns) (level_along v ns) y;
   step = last v n y;
   is = f.path ∙ split v n (path_along v ns) (level_along v ns) y stem;
   last = is_last v n y stem;
-  kind = λ nine. kind_small y stem (sym (last_kind v n y stem) ∙ nine);
+  kind = λ nine. kind_small y (sym (last_kind v n y stem) ∙ nine);
   more = not_slash v n y stem;
 }
 
-ends_by : (v : View) (ok : Why → Bool) (n : Name) (ns : List Name) (y : Why) → Found v ok n ns y → Sort y
-    → ((m : Name) (ms : List Name) → ns ≡ m ∷ ms → IsWay v ok m ms → (path_along v (m ∷ ms) ≡ []) ⊎ Ends (path_along v (m ∷ ms)))
+ends_by : (v : View) (n : Name) (ns : List Name) (y : Why) → Found v n ns y → Sort y
+    → ((m : Name) (ms : List Name) → ns ≡ m ∷ ms → IsWay v m ms → (path_along v (m ∷ ms) ≡ []) ⊎ Ends (path_along v (m ∷ ms)))
     → (path_along v (n ∷ ns) ≡ []) ⊎ Ends (path_along v (n ∷ ns))
-ends_by v ok n ns _ f OfRoot below = inl f.path
-ends_by v ok n ns _ f (OfActive m) below =
+ends_by v n ns _ f OfRoot below = inl f.path
+ends_by v n ns _ f (OfActive m) below =
     let back = f.from m refl in
     let same : path_along v (n ∷ ns) ≡ path_along v (m ∷ back.0) = f.path ∙ ap (path_along v) back.1 in
     subst (λ (p : List ℕ). (p ≡ []) ⊎ Ends p) (sym same) (below m back.0 back.1 back.2)
-ends_by v ok n ns _ f (OfStem y stem) below = inr (stem_ends v ok n ns y f stem)
+ends_by v n ns _ f (OfStem y stem) below = inr (stem_ends v n ns y f stem)
 
-ends : (v : View) (ok : Why → Bool) (n : Name) (ns : List Name) → IsWay v ok n ns → (path_along v (n ∷ ns) ≡ []) ⊎ Ends (path_along v (n ∷ ns))
-ends v ok n [] way = let f = found v ok n [] way in ends_by v ok n [] f.0 f.1 (sort f.0) (λ m ms is rest. absurd (cc))
-ends v ok n (d ∷ ds) way =
-    let f = found v ok n (d ∷ ds) way in
-    ends_by v ok n (d ∷ ds) f.0 f.1 (sort f.0)
+ends : (v : View) (n : Name) (ns : List Name) → IsWay v n ns → (path_along v (n ∷ ns) ≡ []) ⊎ Ends (path_along v (n ∷ ns))
+ends v n [] way = let f = found v n [] way in ends_by v n [] f.0 f.1 (sort f.0) (λ m ms is rest. absurd (cc))
+ends v n (d ∷ ds) way =
+    let f = found v n (d ∷ ds) way in
+    ends_by v n (d ∷ ds) f.0 f.1 (sort f.0)
     (λ m ms is rest.
-    subst (λ (ns : List Name). (path_along v ns ≡ []) ⊎ Ends (path_along v ns)) is (ends v ok d ds (way.4)))
+    subst (λ (ns : List Name). (path_along v ns ≡ []) ⊎ Ends (path_along v ns)) is (ends v d ds (way.3)))
 
 -- a node is another, where their paths and their levels are the same
-abbrev pub Meets : View → (Why → Bool) → ℕ → Name → List Name → Type 0
-Meets v ok k n ns =
-    (e : Name) (es : List Name) → length es < k → IsWay v ok e es → path_along v (n ∷ ns) ≡ path_along v (e ∷ es) → level_along v (n ∷ ns) ≡ level_along v (e ∷ es) → n ≡ e
+abbrev pub Meets : View → ℕ → Name → List Name → Type 0
+Meets v k n ns =
+    (e : Name) (es : List Name) → length es < k → IsWay v e es → path_along v (n ∷ ns) ≡ path_along v (e ∷ es) → level_along v (n ∷ ns) ≡ level_along v (e ∷ es) → n ≡ e
 
 differ_if : (a b : ℕ) → (a == b) ≡ false → a ≢ b
 differ_if a b differ same = true≢false (sym (eq-eqb a b same) ∙ differ)
 
 -- a node of a greater level on the same path is on the active server of the other, which is covered then
 
-later_by : (v : View) (ok : Why → Bool) (k : ℕ) (n m : Name) (ns ms : List Name) (y : Why) → Apart v ok → Meets v ok k n ns → length ms ≤ k → Found v ok m ms y → Sort y
+later_by : (v : View) (k : ℕ) (n m : Name) (ns ms : List Name) (y : Why) → Apart v → Meets v k n ns → length ms ≤ k → Found v m ms y → Sort y
     → path_along v (n ∷ ns) ≡ path_along v (m ∷ ms) → level_along v (n ∷ ns) < level_along v (m ∷ ms)
     → ((e : Name) (es : List Name) → ms ≡ e ∷ es → path_along v (n ∷ ns) ≡ path_along v (e ∷ es) → level_along v (n ∷ ns) < level_along v (e ∷ es) → is_covered v n ≡ true)
     → is_covered v n ≡ true
-later_by v ok k n m ns ms _ apart meets few f OfRoot paths less rest = let none = f.level in absurd (omega (arith, none, less))
-later_by v ok k n m ns ms _ apart meets few f (OfStem y stem) paths less rest = let none = f.level ∙ stem_level y (level_along v ms) stem in absurd (omega (arith, none, less))
-later_by v ok k n m ns ms _ apart meets few f (OfActive e) paths less rest = go (cases_Bool (level_along v (n ∷ ns) == level_along v (e ∷ es)))
+later_by v k n m ns ms _ apart meets few f OfRoot paths less rest = let none = f.level in absurd (omega (arith, none, less))
+later_by v k n m ns ms _ apart meets few f (OfStem y stem) paths less rest = let none = f.level ∙ stem_level y (level_along v ms) stem in absurd (omega (arith, none, less))
+later_by v k n m ns ms _ apart meets few f (OfActive e) paths less rest = go (cases_Bool (level_along v (n ∷ ns) == level_along v (e ∷ es)))
   where
-    back : (ds : List Name) × (ms ≡ e ∷ ds) × IsWay v ok e ds
+    back : (ds : List Name) × (ms ≡ e ∷ ds) × IsWay v e ds
     back = f.from e refl
 
     es : List Name
@@ -147,22 +131,22 @@ later_by v ok k n m ns ms _ apart meets few f (OfActive e) paths less rest = go 
     go (inl same) = ap (is_covered v) (meets e es shorter back.2 on (eqb-true (level_along v (n ∷ ns)) (level_along v (e ∷ es)) same)) ∙ apart.covered e m f.why
     go (inr differ) = let apart_levels = differ_if (level_along v (n ∷ ns)) (level_along v (e ∷ es)) differ in rest e es back.1 on (omega (arith, less, one_less, apart_levels))
 
-later : (v : View) (ok : Why → Bool) (k : ℕ) (n m : Name) (ns ms : List Name) → Apart v ok → Meets v ok k n ns → length ms ≤ k → IsWay v ok m ms
+later : (v : View) (k : ℕ) (n m : Name) (ns ms : List Name) → Apart v → Meets v k n ns → length ms ≤ k → IsWay v m ms
     → path_along v (n ∷ ns) ≡ path_along v (m ∷ ms) → level_along v (n ∷ ns) < level_along v (m ∷ ms) → is_covered v n ≡ true
-later v ok k n m ns [] apart meets few way paths less =
-    let f = found v ok m [] way in later_by v ok k n m ns [] f.0 apart meets few f.1 (sort f.0) paths less (λ e es is. absurd (cc))
-later v ok k n m ns (d ∷ ds) apart meets few way paths less =
-    let f = found v ok m (d ∷ ds) way in
+later v k n m ns [] apart meets few way paths less =
+    let f = found v m [] way in later_by v k n m ns [] f.0 apart meets few f.1 (sort f.0) paths less (λ e es is. absurd (cc))
+later v k n m ns (d ∷ ds) apart meets few way paths less =
+    let f = found v m (d ∷ ds) way in
     let size : length (d ∷ ds) ≤ k = few in
-    later_by v ok k n m ns (d ∷ ds) f.0 apart meets few f.1 (sort f.0) paths less
+    later_by v k n m ns (d ∷ ds) f.0 apart meets few f.1 (sort f.0) paths less
     (λ e es is.
     subst (λ (xs : List Name). path_along v (n ∷ ns) ≡ path_along v xs → level_along v (n ∷ ns) < level_along v xs → is_covered v n ≡ true) is
-    (later v ok k n d ns ds apart meets (omega (arith, size)) way.4))
+    (later v k n d ns ds apart meets (omega (arith, size)) way.3))
 
 -- nodes whose ways are shorter are told apart by their paths and their levels
-abbrev pub Shorter : View → (Why → Bool) → ℕ → Type 0
-Shorter v ok k =
-    (n m : Name) (ns ms : List Name) → length ns < k → length ms < 2 ^ 63 → IsWay v ok n ns → IsWay v ok m ms → path_along v (n ∷ ns) ≡ path_along v (m ∷ ms)
+abbrev pub Shorter : View → ℕ → Type 0
+Shorter v k =
+    (n m : Name) (ns ms : List Name) → length ns < k → length ms < 2 ^ 63 → IsWay v n ns → IsWay v m ms → path_along v (n ∷ ns) ≡ path_along v (m ∷ ms)
     → level_along v (n ∷ ns) ≡ level_along v (m ∷ ms) → n ≡ m
 
 -- a path that is none or ends with a step is no slash
@@ -194,15 +178,15 @@ covered_apart p q k (inr e) is =
 
 -- paths that go on from nodes
 
-full_once : (v : View) (ok : Why → Bool) (k : ℕ) (n m : Name) (ns ms : List Name) → Apart v ok → Shorter v ok k → k ≤ 2 ^ 63 → length ns < k → length ms < 2 ^ 63 → IsWay v ok n ns
-    → IsWay v ok m ms → full v n ns ≡ full v m ms → n ≡ m
-full_once v ok k n m ns ms apart short small shorter few way_n way_m is = go (is_covered v n) (is_covered v m) refl refl is
+full_once : (v : View) (k : ℕ) (n m : Name) (ns ms : List Name) → Apart v → Shorter v k → k ≤ 2 ^ 63 → length ns < k → length ms < 2 ^ 63 → IsWay v n ns
+    → IsWay v m ms → full v n ns ≡ full v m ms → n ≡ m
+full_once v k n m ns ms apart short small shorter few way_n way_m is = go (is_covered v n) (is_covered v m) refl refl is
   where
     ends_n : (path_along v (n ∷ ns) ≡ []) ⊎ Ends (path_along v (n ∷ ns))
-    ends_n = ends v ok n ns way_n
+    ends_n = ends v n ns way_n
 
     ends_m : (path_along v (m ∷ ms) ≡ []) ⊎ Ends (path_along v (m ∷ ms))
-    ends_m = ends v ok m ms way_m
+    ends_m = ends v m ms way_m
 
     few_n : level_along v (n ∷ ns) < 2 ^ 64
     few_n = let most = level_most v (n ∷ ns) in omega (arith, most, shorter, small)
@@ -215,13 +199,13 @@ full_once v ok k n m ns ms apart short small shorter few way_n way_m is = go (is
         → (nat_lt (level_along v (n ∷ ns)) (level_along v (m ∷ ms)) ≡ true) ⊎ (nat_lt (level_along v (n ∷ ns)) (level_along v (m ∷ ms)) ≡ false) → n ≡ m
     compared bare_n bare_m paths (inl same) order = short n m ns ms shorter few way_n way_m paths (eqb-true (level_along v (n ∷ ns)) (level_along v (m ∷ ms)) same)
     compared bare_n bare_m paths (inr differ) (inl less) =
-        absurd (true≢false (sym (later v ok (length ms) n m ns ms apart
+        absurd (true≢false (sym (later v (length ms) n m ns ms apart
         (λ e es size way_e on levels. short n e ns es shorter (omega (arith, size, few)) way_n way_e on levels)
         (omega arith) way_m paths (ltb-true (level_along v (n ∷ ns)) (level_along v (m ∷ ms)) less)) ∙ bare_n))
     compared bare_n bare_m paths (inr differ) (inr more) =
         let above = ltb-false (level_along v (n ∷ ns)) (level_along v (m ∷ ms)) more in
         let apart_levels = differ_if (level_along v (n ∷ ns)) (level_along v (m ∷ ms)) differ in
-        absurd (true≢false (sym (later v ok (length ns) m n ms ns apart
+        absurd (true≢false (sym (later v (length ns) m n ms ns apart
         (λ e es size way_e on levels. sym (short e m es ms (omega (arith, size, shorter)) few way_e way_m (sym on) (sym levels)))
         (omega arith) way_n (sym paths) (omega (arith, above, apart_levels))) ∙ bare_m))
 
@@ -239,76 +223,51 @@ full_once v ok k n m ns ms apart short small shorter few way_n way_m is = go (is
 
 -- two nodes with steps of their own
 
-stems_once : (v : View) (ok : Why → Bool) (k : ℕ) (n m : Name) (ns ms : List Name) (y z : Why) → Apart v ok → Shorter v ok k → k ≤ 2 ^ 63 → length ns ≤ k → length ms < 2 ^ 63
-    → Found v ok n ns y → Found v ok m ms z → is_stem y ≡ true → is_stem z ≡ true → path_along v (n ∷ ns) ≡ path_along v (m ∷ ms) → n ≡ m
-stems_once v ok k n m ns ms y z apart short small shorter few f g stem_y stem_z paths = go y z f g fronts lasts (alike y z stem_y stem_z kinds)
+stems_once : (v : View) (k : ℕ) (n m : Name) (ns ms : List Name) (y z : Why) → Apart v → Shorter v k → k ≤ 2 ^ 63 → length ns ≤ k → length ms < 2 ^ 63
+    → Found v n ns y → Found v m ms z → is_stem y ≡ true → is_stem z ≡ true → path_along v (n ∷ ns) ≡ path_along v (m ∷ ms) → n ≡ m
+stems_once v k n m ns ms y z apart short small shorter few f g stem_y stem_z paths =
+    apart.once y n m f.why (g.why ∙ ap (λ (x : Why). Some x) (sym one)) (both.1 ∙ ap (last v m) (sym one))
   where
     both : (front v n (path_along v ns) (level_along v ns) y ≡ front v m (path_along v ms) (level_along v ms) z) × (last v n y ≡ last v m z)
     both =
         cut_same (front v n (path_along v ns) (level_along v ns) y) (front v m (path_along v ms) (level_along v ms) z) (last v n y) (last v m z) (is_last v n y stem_y) (is_last v m z stem_z)
         (sym (split v n (path_along v ns) (level_along v ns) y stem_y) ∙ (sym f.path ∙ (paths ∙ (g.path ∙ split v m (path_along v ms) (level_along v ms) z stem_z))))
 
-    fronts : front v n (path_along v ns) (level_along v ns) y ≡ front v m (path_along v ms) (level_along v ms) z
-    fronts = both.0
-
-    lasts : last v n y ≡ last v m z
-    lasts = both.1
-
     kinds : kind y ≡ kind z
-    kinds = sym (last_kind v n y stem_y) ∙ (ap tag lasts ∙ last_kind v m z stem_z)
+    kinds = sym (last_kind v n y stem_y) ∙ (ap tag both.1 ∙ last_kind v m z stem_z)
 
     -- the nodes from which they were found
-    same_from : (d e : Name) → ((ds : List Name) × (ns ≡ d ∷ ds) × IsWay v ok d ds) → ((es : List Name) × (ms ≡ e ∷ es) × IsWay v ok e es)
+    same_from : (d e : Name) → ((ds : List Name) × (ns ≡ d ∷ ds) × IsWay v d ds) → ((es : List Name) × (ms ≡ e ∷ es) × IsWay v e es)
         → covered_path (is_covered v d) (path_along v ns) (level_along v ns) ≡ covered_path (is_covered v e) (path_along v ms) (level_along v ms) → d ≡ e
     same_from d e (ds, is_d, way_d) (es, is_e, way_e) same =
         let size_d = ap length is_d in
         let size_e = ap length is_e in
-        full_once v ok k d e ds es apart short small (omega (arith, size_d, shorter)) (omega (arith, size_e, few)) way_d way_e
+        full_once v k d e ds es apart short small (omega (arith, size_d, shorter)) (omega (arith, size_e, few)) way_d way_e
         (ap (λ (xs : List Name). covered_path (is_covered v d) (path_along v xs) (level_along v xs)) (sym is_d)
         ∙ (same ∙ ap (λ (xs : List Name). covered_path (is_covered v e) (path_along v xs) (level_along v xs)) is_e))
 
-    go : (y z : Why) → Found v ok n ns y → Found v ok m ms z → front v n (path_along v ns) (level_along v ns) y ≡ front v m (path_along v ms) (level_along v ms) z → last v n y ≡ last v m z
-        → Alike y z → n ≡ m
-    go _ _ f g fronts lasts BothHeld = apart.held n m f.is_ok f.why g.why lasts
-    go _ _ f g fronts lasts BothWay = apart.way n m f.is_ok f.why g.why lasts
-    go _ _ f g fronts lasts BothControlled = apart.controlled n m f.is_ok f.why g.why lasts
-    go _ _ f g fronts lasts BothPending = apart.pending n m f.is_ok f.why g.why lasts
-    go _ _ f g fronts lasts (BothChild d e) =
-        let once = child_once (name_in (row_at v.rows d).body n) (name_in (row_at v.rows e).body m) (covered_path (is_covered v d) (path_along v ns) (level_along v ns))
-        (covered_path (is_covered v e) (path_along v ms) (level_along v ms)) fronts lasts in
-        let same = same_from d e (f.from d refl) (g.from e refl) once.0 in
-        apart.child d n m f.why (subst (λ (x : Name). why_of m v.sight.found ≡ Some (why.Child x)) (sym same) g.why)
-        (once.1 ∙ ap (λ (x : Name). name_in (row_at v.rows x).body m) (sym same))
-    go _ _ f g fronts lasts (BothParent d e) =
-        let same = same_from d e (f.from d refl) (g.from e refl) fronts in
-        apart.parent d n m f.why (subst (λ (x : Name). why_of m v.sight.found ≡ Some (why.Parent x)) (sym same) g.why)
-    go _ _ f g fronts lasts (BothServerRoot d e) =
-        let same = same_from d e (f.from d refl) (g.from e refl) fronts in
-        apart.server_root d n m f.why (subst (λ (x : Name). why_of m v.sight.found ≡ Some (why.ServerRoot x)) (sym same) g.why)
-    go _ _ f g fronts lasts (BothTarget d e) =
-        let same = same_from d e (f.from d refl) (g.from e refl) fronts in
-        apart.target d n m f.is_ok f.why (subst (λ (x : Name). why_of m v.sight.found ≡ Some (why.Target x)) (sym same) g.why)
-        (lasts ∙ ap (λ (x : Name). last v m (why.Target x)) (sym same))
+    one : y ≡ z
+    one = one_why v n m (path_along v ns) (path_along v ms) (level_along v ns) (level_along v ms) y z stem_y kinds both.0 both.1 (λ d e from_d from_e. same_from d e (f.from d from_d) (g.from e from_e))
 
 -- and any two
 
-stem_path : (v : View) (ok : Why → Bool) (n : Name) (ns : List Name) (y : Why) → Found v ok n ns y → is_stem y ≡ true → path_along v (n ∷ ns) ≡ [] → ⊥
-stem_path v ok n ns y f stem none = let e = stem_ends v ok n ns y f stem in some_step e.before e.step e.last (sym e.is ∙ none)
+stem_path : (v : View) (n : Name) (ns : List Name) (y : Why) → Found v n ns y → is_stem y ≡ true → path_along v (n ∷ ns) ≡ [] → ⊥
+stem_path v n ns y f stem none = let e = stem_ends v n ns y f stem in some_step e.before e.step e.last (sym e.is ∙ none)
 
-by_sorts : (v : View) (ok : Why → Bool) (k : ℕ) (n m : Name) (ns ms : List Name) (y z : Why) → Apart v ok → Shorter v ok k → k ≤ 2 ^ 63 → length ns ≤ k → length ms < 2 ^ 63
-    → Found v ok n ns y → Found v ok m ms z → Sort y → Sort z → path_along v (n ∷ ns) ≡ path_along v (m ∷ ms) → level_along v (n ∷ ns) ≡ level_along v (m ∷ ms) → n ≡ m
-by_sorts v ok k n m ns ms _ _ apart short small shorter few f g OfRoot OfRoot paths levels = apart.root n m f.why g.why
-by_sorts v ok k n m ns ms _ _ apart short small shorter few f g OfRoot (OfActive e) paths levels = let a = f.level in let b = g.level in absurd (omega (arith, a, b, levels))
-by_sorts v ok k n m ns ms _ _ apart short small shorter few f g OfRoot (OfStem z stem) paths levels = absurd (stem_path v ok m ms z g stem (sym paths ∙ f.path))
-by_sorts v ok k n m ns ms _ _ apart short small shorter few f g (OfActive d) OfRoot paths levels = let a = f.level in let b = g.level in absurd (omega (arith, a, b, levels))
-by_sorts v ok k n m ns ms _ _ apart short small shorter few f g (OfActive d) (OfStem z stem) paths levels =
+by_sorts : (v : View) (k : ℕ) (n m : Name) (ns ms : List Name) (y z : Why) → Apart v → Shorter v k → k ≤ 2 ^ 63 → length ns ≤ k → length ms < 2 ^ 63
+    → Found v n ns y → Found v m ms z → Sort y → Sort z → path_along v (n ∷ ns) ≡ path_along v (m ∷ ms) → level_along v (n ∷ ns) ≡ level_along v (m ∷ ms) → n ≡ m
+by_sorts v k n m ns ms _ _ apart short small shorter few f g OfRoot OfRoot paths levels = apart.once why.Root n m f.why g.why refl
+by_sorts v k n m ns ms _ _ apart short small shorter few f g OfRoot (OfActive e) paths levels = let a = f.level in let b = g.level in absurd (omega (arith, a, b, levels))
+by_sorts v k n m ns ms _ _ apart short small shorter few f g OfRoot (OfStem z stem) paths levels = absurd (stem_path v m ms z g stem (sym paths ∙ f.path))
+by_sorts v k n m ns ms _ _ apart short small shorter few f g (OfActive d) OfRoot paths levels = let a = f.level in let b = g.level in absurd (omega (arith, a, b, levels))
+by_sorts v k n m ns ms _ _ apart short small shorter few f g (OfActive d) (OfStem z stem) paths levels =
     let a = f.level in let b = g.level ∙ stem_level z (level_along v ms) stem in absurd (omega (arith, a, b, levels))
-by_sorts v ok k n m ns ms _ _ apart short small shorter few f g (OfStem y stem) OfRoot paths levels = absurd (stem_path v ok n ns y f stem (paths ∙ g.path))
-by_sorts v ok k n m ns ms _ _ apart short small shorter few f g (OfStem y stem) (OfActive e) paths levels =
+by_sorts v k n m ns ms _ _ apart short small shorter few f g (OfStem y stem) OfRoot paths levels = absurd (stem_path v n ns y f stem (paths ∙ g.path))
+by_sorts v k n m ns ms _ _ apart short small shorter few f g (OfStem y stem) (OfActive e) paths levels =
     let a = f.level ∙ stem_level y (level_along v ns) stem in let b = g.level in absurd (omega (arith, a, b, levels))
-by_sorts v ok k n m ns ms _ _ apart short small shorter few f g (OfStem y stem_y) (OfStem z stem_z) paths levels =
-    stems_once v ok k n m ns ms y z apart short small shorter few f g stem_y stem_z paths
-by_sorts v ok k n m ns ms _ _ apart short small shorter few f g (OfActive d) (OfActive e) paths levels =
+by_sorts v k n m ns ms _ _ apart short small shorter few f g (OfStem y stem_y) (OfStem z stem_z) paths levels =
+    stems_once v k n m ns ms y z apart short small shorter few f g stem_y stem_z paths
+by_sorts v k n m ns ms _ _ apart short small shorter few f g (OfActive d) (OfActive e) paths levels =
     let x = f.from d refl in
     let y = g.from e refl in
     let size_x = ap length x.1 in
@@ -317,24 +276,24 @@ by_sorts v ok k n m ns ms _ _ apart short small shorter few f g (OfActive d) (Of
     let a = f.level ∙ ap (λ (xs : List Name). suc (level_along v xs)) x.1 in
     let b = g.level ∙ ap (λ (xs : List Name). suc (level_along v xs)) y.1 in
     let same = short d e x.0 y.0 (omega (arith, size_x, shorter)) (omega (arith, size_y, few)) x.2 y.2 on (omega (arith, a, b, levels)) in
-    apart.active d n m f.why (subst (λ (q : Name). why_of m v.sight.found ≡ Some (why.Active q)) (sym same) g.why)
+    apart.once (why.Active d) n m f.why (subst (λ (q : Name). why_of m v.sight.found ≡ Some (why.Active q)) (sym same) g.why) refl
 
-all_shorter : (v : View) (ok : Why → Bool) (k : ℕ) → Apart v ok → k ≤ 2 ^ 63 → Shorter v ok k
-all_shorter v ok zero apart small n m ns ms less few way_n way_m paths levels = absurd (omega (arith, less))
-all_shorter v ok (suc k) apart small n m ns ms less few way_n way_m paths levels =
-    let f = found v ok n ns way_n in
-    let g = found v ok m ms way_m in
-    by_sorts v ok k n m ns ms f.0 g.0 apart (all_shorter v ok k apart (omega (arith, small))) (omega (arith, small)) (omega (arith, less)) few f.1 g.1 (sort f.0) (sort g.0) paths levels
+all_shorter : (v : View) (k : ℕ) → Apart v → k ≤ 2 ^ 63 → Shorter v k
+all_shorter v zero apart small n m ns ms less few way_n way_m paths levels = absurd (omega (arith, less))
+all_shorter v (suc k) apart small n m ns ms less few way_n way_m paths levels =
+    let f = found v n ns way_n in
+    let g = found v m ms way_m in
+    by_sorts v k n m ns ms f.0 g.0 apart (all_shorter v k apart (omega (arith, small))) (omega (arith, small)) (omega (arith, less)) few f.1 g.1 (sort f.0) (sort g.0) paths levels
 
 -- nodes of such ways whose paths go on in the same way are one node
-pub ways_once : (v : View) (ok : Why → Bool) (n m : Name) (ns ms : List Name) → Apart v ok → length ns < 2 ^ 63 → length ms < 2 ^ 63 → IsWay v ok n ns → IsWay v ok m ms
+pub ways_once : (v : View) (n m : Name) (ns ms : List Name) → Apart v → length ns < 2 ^ 63 → length ms < 2 ^ 63 → IsWay v n ns → IsWay v m ms
     → or_root (full v n ns) ≡ or_root (full v m ms) → n ≡ m
-ways_once v ok n m ns ms apart few_n few_m way_n way_m is =
-    full_once v ok (2 ^ 63) n m ns ms apart (all_shorter v ok (2 ^ 63) apart (omega arith)) (omega arith) few_n few_m way_n way_m
+ways_once v n m ns ms apart few_n few_m way_n way_m is =
+    full_once v (2 ^ 63) n m ns ms apart (all_shorter v (2 ^ 63) apart (omega arith)) (omega arith) few_n few_m way_n way_m
     (root_once (full v n ns) (full v m ms) (no_full n ns way_n (is_covered v n)) (no_full m ms way_m (is_covered v m)) is)
   where
-    no_full : (x : Name) (xs : List Name) → IsWay v ok x xs → (t : Bool) → covered_path t (path_along v (x ∷ xs)) (level_along v (x ∷ xs)) ≡ 47 ∷ [] → ⊥
-    no_full x xs way false same = no_slash (path_along v (x ∷ xs)) (ends v ok x xs way) same
+    no_full : (x : Name) (xs : List Name) → IsWay v x xs → (t : Bool) → covered_path t (path_along v (x ∷ xs)) (level_along v (x ∷ xs)) ≡ 47 ∷ [] → ⊥
+    no_full x xs way false same = no_slash (path_along v (x ∷ xs)) (ends v x xs way) same
     no_full x xs way true same =
         let alone = slash_alone (or_root (path_along v (x ∷ xs))) (beneath (level_along v (x ∷ xs))) (beneath_last (level_along v (x ∷ xs))) same in
         let nine = sym (beneath_kind (level_along v (x ∷ xs))) ∙ ap tag alone in

@@ -18,7 +18,8 @@ use Rattle.hurd_views.specs.declared.view.View.{View}
 use Rattle.hurd_places.specs.Places.{beneath, beside, beside_port, beside_ports, beside_task, beside_tasks, count_to, is_covered, is_held, is_wanted, label_in, label_of, label_or, label_text, level_along, covered_path, name_in, names_tasks, node_path, node_place, numbered, or_root, path_along, step_by, target_at, way_of}
 use Rattle.hurd_places.specs.declared.labels.Holder.TheVariants as holder
 use Rattle.hurd_places.specs.declared.labels.Wanted.TheVariants as wanted
-use Rattle.hurd_places.proofs.CutLaws.{is_inner, is_whole}
+use Rattle.hurd_places.proofs.CutLaws.{is_cut, is_inner, is_whole}
+use Rattle.hurd_places.proofs.EachBeside.{each_beside}
 use Rattle.hurd_places.proofs.StepLaws.{IsLast, beneath_last, child_front, child_last, front, is_last, is_stem, last, split}
 
 -- whether a text begins with a bracket; whether no bracket stands behind a space; and whether no space stands last
@@ -36,9 +37,15 @@ closed [] = true
 closed (b ∷ []) = not (b == 32)
 closed (b ∷ c ∷ bs) = closed (c ∷ bs)
 
-record Clean (s : List ℕ) : Type 0 where
+-- whether a text begins with a slash or a bracket, if with anything
+abbrev pub heads : List ℕ → Bool
+heads [] = true
+heads (b ∷ bs) = is_cut b
+
+pub record Clean (s : List ℕ) : Type 0 where
   pub apart : apart s ≡ true
   pub closed : closed s ≡ true
+  pub heads : heads s ≡ true
 
 not_both : (b c : Bool) → not b ≡ true → not (b && c) ≡ true
 not_both true c is = absurd (true≢false (sym is))
@@ -57,8 +64,16 @@ closed_both (x ∷ []) [] a b = a
 closed_both (x ∷ []) (y ∷ t) a b = b
 closed_both (x ∷ y ∷ s) t a b = closed_both (y ∷ s) t a b
 
+heads_both : (s t : List ℕ) → heads s ≡ true → heads t ≡ true → heads (s ++ t) ≡ true
+heads_both [] t a b = b
+heads_both (x ∷ s) t a b = a
+
 clean_both : (s t : List ℕ) → Clean s → Clean t → Clean (s ++ t)
-clean_both s t a b = record { apart = apart_both s t a.apart a.closed b.apart; closed = closed_both s t a.closed b.closed }
+clean_both s t a b = record {
+  apart = apart_both s t a.apart a.closed b.apart;
+  closed = closed_both s t a.closed b.closed;
+  heads = heads_both s t a.heads b.heads;
+}
 
 -- a step is
 
@@ -85,8 +100,8 @@ whole_apart x (b ∷ w) whole =
     none true false is = refl
     none false t is = refl
 
-last_apart : (t : List ℕ) → IsLast t → apart t ≡ true
-last_apart t l = ap apart l.is ∙ whole_apart l.first l.rest l.whole
+last_clean : (t : List ℕ) → IsLast t → closed t ≡ true → Clean t
+last_clean t l closed = record { apart = ap apart l.is ∙ whole_apart l.first l.rest l.whole; closed = closed; heads = ap heads l.is ∙ l.cuts }
 
 ended : (s : List ℕ) → closed (s ++ 41 ∷ []) ≡ true
 ended [] = refl
@@ -129,11 +144,11 @@ last_closed v n (why.ServerRoot d) is = refl
 last_closed v n (why.Target d) is = numbered_closed (codes "target") (target_at v d n)
 
 root_clean : (p : List ℕ) → Clean p → Clean (or_root p)
-root_clean [] c = record { apart = refl; closed = refl }
+root_clean [] c = record { apart = refl; closed = refl; heads = refl }
 root_clean (b ∷ p) c = c
 
 beneath_clean : (k : ℕ) → Clean (beneath k)
-beneath_clean k = record { apart = last_apart (beneath k) (beneath_last k); closed = go (k == 0) }
+beneath_clean k = last_clean (beneath k) (beneath_last k) (go (k == 0))
   where
     go : (t : Bool) → closed (if t then codes "(beneath)" else numbered (codes "beneath") k) ≡ true
     go true = refl
@@ -144,124 +159,82 @@ covered_clean false p k c = c
 covered_clean true p k c = clean_both (or_root p) (beneath k) (root_clean p c) (beneath_clean k)
 
 nothing : Clean []
-nothing = record { apart = refl; closed = refl }
+nothing = record { apart = refl; closed = refl; heads = refl }
 
 front_clean : (v : View) (n : Name) (path : List ℕ) (k : ℕ) (y : Why) → Clean path → Clean (front v n path k y)
-front_clean v n path k why.Root c = nothing
-front_clean v n path k (why.Active m) c = nothing
-front_clean v n path k why.Held c = nothing
-front_clean v n path k why.Way c = nothing
-front_clean v n path k why.Controlled c = nothing
-front_clean v n path k why.Pending c = nothing
 front_clean v n path k (why.Child d) c = go (name_in (row_at v.rows d).body n)
   where
     go : (name : List ℕ) → Clean (child_front name (covered_path (is_covered v d) path k))
-    go [] = clean_both (covered_path (is_covered v d) path k) (47 ∷ []) (covered_clean (is_covered v d) path k c) (record { apart = refl; closed = refl })
+    go [] = clean_both (covered_path (is_covered v d) path k) (47 ∷ []) (covered_clean (is_covered v d) path k c) (record { apart = refl; closed = refl; heads = refl })
     go (b ∷ bs) = covered_clean (is_covered v d) path k c
 front_clean v n path k (why.Parent d) c = covered_clean (is_covered v d) path k c
 front_clean v n path k (why.ServerRoot d) c = covered_clean (is_covered v d) path k c
 front_clean v n path k (why.Target d) c = covered_clean (is_covered v d) path k c
+front_clean v n path k _ c = nothing
 
 stem_clean : (v : View) (n : Name) (path : List ℕ) (k : ℕ) (y : Why) → is_stem y ≡ true → Clean path → Clean (step_by v n path k (Some y))
 stem_clean v n path k y stem c =
     subst Clean (sym (split v n path k y stem))
-    (clean_both (front v n path k y) (last v n y) (front_clean v n path k y c) (record { apart = last_apart (last v n y) (is_last v n y stem); closed = last_closed v n y stem }))
+    (clean_both (front v n path k y) (last v n y) (front_clean v n path k y c) (last_clean (last v n y) (is_last v n y stem) (last_closed v n y stem)))
 
 step_clean : (v : View) (n : Name) (path : List ℕ) (k : ℕ) (o : Option Why) → Clean path → Clean (step_by v n path k o)
-step_clean v n path k None c = record { apart = refl; closed = refl }
+step_clean v n path k None c = record { apart = refl; closed = refl; heads = refl }
 step_clean v n path k (Some why.Root) c = nothing
 step_clean v n path k (Some (why.Active m)) c = c
-step_clean v n path k (Some why.Held) c = stem_clean v n path k why.Held refl c
-step_clean v n path k (Some why.Way) c = stem_clean v n path k why.Way refl c
-step_clean v n path k (Some why.Controlled) c = stem_clean v n path k why.Controlled refl c
-step_clean v n path k (Some why.Pending) c = stem_clean v n path k why.Pending refl c
-step_clean v n path k (Some (why.Child d)) c = stem_clean v n path k (why.Child d) refl c
-step_clean v n path k (Some (why.Parent d)) c = stem_clean v n path k (why.Parent d) refl c
-step_clean v n path k (Some (why.ServerRoot d)) c = stem_clean v n path k (why.ServerRoot d) refl c
-step_clean v n path k (Some (why.Target d)) c = stem_clean v n path k (why.Target d) refl c
+step_clean v n path k (Some y) c = stem_clean v n path k y refl c
 
 along_clean : (v : View) (ns : List Name) → Clean (path_along v ns)
 along_clean v [] = nothing
 along_clean v (n ∷ ns) = step_clean v n (path_along v ns) (level_along v ns) (why_of n v.sight.found) (along_clean v ns)
 
+pub covered_path_clean : (v : View) (n : Name) → Clean (covered_path (is_covered v n) (path_along v (way_of v n)) (level_along v (way_of v n)))
+covered_path_clean v n = covered_clean (is_covered v n) (path_along v (way_of v n)) (level_along v (way_of v n)) (along_clean v (way_of v n))
+
 path_clean : (v : View) (n : Name) → Clean (node_path v n)
-path_clean v n =
-    root_clean (covered_path (is_covered v n) (path_along v (way_of v n)) (level_along v (way_of v n)))
-    (covered_clean (is_covered v n) (path_along v (way_of v n)) (level_along v (way_of v n)) (along_clean v (way_of v n)))
+path_clean v n = root_clean (covered_path (is_covered v n) (path_along v (way_of v n)) (level_along v (way_of v n))) (covered_path_clean v n)
 
--- what stands beside a path
+-- what stands beside a path begins with a space and a bracket
 
-abbrev pub Beside : List ℕ → Type 0
-Beside b = (b ≡ []) ⊎ ((t : List ℕ) × (b ≡ 32 ∷ 40 ∷ t))
+abbrev pub spaces : List ℕ → Bool
+spaces [] = true
+spaces (b ∷ c ∷ bs) = b == 32 && c == 40
+spaces _ = false
 
-beside_both : (s t : List ℕ) → Beside s → Beside t → Beside (s ++ t)
-beside_both s t (inl none) b = go s none
-  where
-    go : (s : List ℕ) → s ≡ [] → Beside (s ++ t)
-    go [] none = b
-    go (x ∷ s) none = absurd (cc)
-beside_both s t (inr (u, is)) b = inr (u ++ t, ap (λ (x : List ℕ). x ++ t) is)
+spaces_both : (s t : List ℕ) → spaces s ≡ true → spaces t ≡ true → spaces (s ++ t) ≡ true
+spaces_both [] t a b = b
+spaces_both (x ∷ []) t a b = absurd (true≢false (sym a))
+spaces_both (x ∷ y ∷ s) t a b = a
 
-port_beside : (many : Bool) (t : TaskId) (n : Name) (p : Port) → Beside (beside_port many t n p)
-port_beside many t n p = go (nat_lt 2 p.number && is_wanted (wanted.Node n) p.right)
-  where
-    go : (b : Bool) → Beside (text_if b (codes " (" ++ (label_text many (label_in t holder.Port p.number) ++ codes ")")))
-    go true = inr (label_text many (label_in t holder.Port p.number) ++ codes ")", refl)
-    go false = inl refl
-
-ports_beside : (many : Bool) (t : TaskId) (n : Name) (ps : List Port) → Beside (beside_ports many t n ps)
-ports_beside many t n [] = inl refl
-ports_beside many t n (p ∷ ps) = beside_both (beside_port many t n p) (beside_ports many t n ps) (port_beside many t n p) (ports_beside many t n ps)
-
-task_beside : (many : Bool) (t : TaskId) (n : Name) (x : Option Task) → Beside (beside_task many t n x)
-task_beside many t n None = inl refl
-task_beside many t n (Some x) = ports_beside many t n x.ports
-
-tasks_beside : (many : Bool) (n : Name) (ts : List TaskId) (xs : List (Option Task)) → Beside (beside_tasks many n ts xs)
-tasks_beside many n [] xs = inl refl
-tasks_beside many n (t ∷ ts) [] = inl refl
-tasks_beside many n (t ∷ ts) (x ∷ xs) = beside_both (beside_task many t n x) (beside_tasks many n ts xs) (task_beside many t n x) (tasks_beside many n ts xs)
-
-is_beside : (v : View) (n : Name) → Beside (beside v n)
-is_beside v n = go (is_held (why_of n v.sight.found))
-  where
-    go : (b : Bool) → Beside (if b then [] else beside_tasks (names_tasks v) n v.sight.tasks.items v.seats.items)
-    go true = inl refl
-    go false = tasks_beside (names_tasks v) n v.sight.tasks.items v.seats.items
+is_beside : (v : View) (n : Name) → spaces (beside v n) ≡ true
+is_beside v n = each_beside (λ (b : List ℕ). spaces b ≡ true) (record { none = refl; both = spaces_both; label = λ many l. refl }) v n
 
 -- two clean texts with something beside them
 
-longer : (x : ℕ) (q b c : List ℕ) → Beside b → apart (x ∷ q) ≡ true → closed (x ∷ q) ≡ true → b ≡ (x ∷ q) ++ c → ⊥
-longer x q b c (inl none) a d is = let both = sym none ∙ is in cc
-longer x [] b c (inr (t, more)) a d is = let first = (first_same 32 x (40 ∷ t) c (sym more ∙ is)).0 in true≢false (sym d ∙ ap (λ (y : ℕ). not (y == 32)) (sym first))
-longer x (y ∷ q) b c (inr (t, more)) a d is =
-    let both = first_same 32 x (40 ∷ t) (y ∷ (q ++ c)) (sym more ∙ is) in
-    let next = (first_same 40 y t (q ++ c) both.1).0 in
-    true≢false (sym (and_parts (not (x == 32 && y == 40)) (apart (y ∷ q)) a).0 ∙ (ap (λ (z : ℕ). not (z == 32 && y == 40)) (sym both.0) ∙ ap (λ (z : ℕ). not (z == 40)) (sym next)))
+longer : (x : ℕ) (q c : List ℕ) → spaces ((x ∷ q) ++ c) ≡ true → apart (x ∷ q) ≡ true → closed (x ∷ q) ≡ true → ⊥
+longer x [] [] s a d = true≢false (sym s)
+longer x [] (y ∷ c) s a d = true≢false (sym d ∙ ap not (and_parts (x == 32) (y == 40) s).0)
+longer x (y ∷ q) c s a d = true≢false (sym (and_parts (not (x == 32 && y == 40)) (apart (y ∷ q)) a).0 ∙ ap not s)
 
 closed_rest : (x : ℕ) (s : List ℕ) → closed (x ∷ s) ≡ true → closed s ≡ true
 closed_rest x [] is = refl
 closed_rest x (y ∷ s) is = is
 
-clean_same : (p q b c : List ℕ) → apart p ≡ true → closed p ≡ true → apart q ≡ true → closed q ≡ true → Beside b → Beside c → p ++ b ≡ q ++ c → p ≡ q
+clean_same : (p q b c : List ℕ) → apart p ≡ true → closed p ≡ true → apart q ≡ true → closed q ≡ true → spaces b ≡ true → spaces c ≡ true → p ++ b ≡ q ++ c → p ≡ q
 clean_same [] [] b c ap_p cl_p ap_q cl_q b_is c_is is = refl
-clean_same [] (x ∷ q) b c ap_p cl_p ap_q cl_q b_is c_is is = absurd (longer x q b c b_is ap_q cl_q is)
-clean_same (x ∷ p) [] b c ap_p cl_p ap_q cl_q b_is c_is is = absurd (longer x p c b c_is ap_p cl_p (sym is))
+clean_same [] (x ∷ q) b c ap_p cl_p ap_q cl_q b_is c_is is = absurd (longer x q c (sym (ap spaces is) ∙ b_is) ap_q cl_q)
+clean_same (x ∷ p) [] b c ap_p cl_p ap_q cl_q b_is c_is is = absurd (longer x p b (ap spaces is ∙ c_is) ap_p cl_p)
 clean_same (x ∷ p) (y ∷ q) b c ap_p cl_p ap_q cl_q b_is c_is is =
     let both = first_same x y (p ++ b) (q ++ c) is in
     let rest = clean_same p q b c (and_parts (not (x == 32 && opens p)) (apart p) ap_p).1 (closed_rest x p cl_p) (and_parts (not (y == 32 && opens q)) (apart q) ap_q).1 (closed_rest y q cl_q) b_is c_is both.1 in
     ap (λ (z : ℕ). z ∷ p) both.0 ∙ ap (λ (s : List ℕ). y ∷ s) rest
 
--- nodes of one place have one path
-pub paths_alike : (v : View) (n m : Name) → node_place v n ≡ node_place v m → node_path v n ≡ node_path v m
-paths_alike v n m is =
-    let a = path_clean v n in
-    let b = path_clean v m in
-    clean_same (node_path v n) (node_path v m) (beside v n) (beside v m) a.apart a.closed b.apart b.closed (is_beside v n) (is_beside v m) is
-
--- and so has a node of a path with something else beside it
-pub path_alone : (v : View) (n m : Name) (c : List ℕ) → Beside c → node_place v n ≡ node_path v m ++ c → node_path v n ≡ node_path v m
+-- a node has the path that something stands beside
+pub path_alone : (v : View) (n m : Name) (c : List ℕ) → spaces c ≡ true → node_place v n ≡ node_path v m ++ c → node_path v n ≡ node_path v m
 path_alone v n m c c_is is =
     let a = path_clean v n in
     let b = path_clean v m in
     clean_same (node_path v n) (node_path v m) (beside v n) c a.apart a.closed b.apart b.closed (is_beside v n) c_is is
+
+-- so nodes of one place have one path
+pub paths_alike : (v : View) (n m : Name) → node_place v n ≡ node_place v m → node_path v n ≡ node_path v m
+paths_alike v n m is = path_alone v n m (beside v m) (is_beside v m) is

@@ -19,6 +19,7 @@ use Rattle.hurd_places.specs.declared.labels.Holder.{Holder}
 use Rattle.hurd_places.specs.declared.labels.Holder.TheVariants as holder
 use Rattle.hurd_places.specs.declared.labels.Label.{Label}
 use Rattle.hurd_places.specs.declared.labels.Wanted.TheVariants as wanted
+use Rattle.hurd_places.proofs.EachBeside.{each_beside}
 
 -- pieces
 
@@ -57,31 +58,12 @@ label_or_fits : (many : Bool) (word : List ℕ) (l : Option Label) → fits word
 label_or_fits many word None fit = fit
 label_or_fits many word (Some l) fit = label_fits many l
 
-port_fits : (many : Bool) (t : TaskId) (n : Name) (p : Port) → fits (beside_port many t n p) ≡ true
-port_fits many t n p =
-    if_fits _ (codes " (" ++ (label_text many (label_in t holder.Port p.number) ++ codes ")"))
-    (both_fit (codes " (") (label_text many (label_in t holder.Port p.number) ++ codes ")") refl
-    (both_fit (label_text many (label_in t holder.Port p.number)) (codes ")") (label_fits many (label_in t holder.Port p.number)) refl))
-
-ports_fit : (many : Bool) (t : TaskId) (n : Name) (ps : List Port) → fits (beside_ports many t n ps) ≡ true
-ports_fit many t n [] = refl
-ports_fit many t n (p ∷ ps) = both_fit (beside_port many t n p) (beside_ports many t n ps) (port_fits many t n p) (ports_fit many t n ps)
-
-task_fits : (many : Bool) (t : TaskId) (n : Name) (x : Option Task) → fits (beside_task many t n x) ≡ true
-task_fits many t n None = refl
-task_fits many t n (Some x) = ports_fit many t n x.ports
-
-tasks_fit : (many : Bool) (n : Name) (ts : List TaskId) (xs : List (Option Task)) → fits (beside_tasks many n ts xs) ≡ true
-tasks_fit many n [] xs = refl
-tasks_fit many n (t ∷ ts) [] = refl
-tasks_fit many n (t ∷ ts) (x ∷ xs) = both_fit (beside_task many t n x) (beside_tasks many n ts xs) (task_fits many t n x) (tasks_fit many n ts xs)
-
 beside_fits : (v : View) (n : Name) → fits (beside v n) ≡ true
-beside_fits v n = go (is_held (why_of n v.sight.found))
-  where
-    go : (t : Bool) → fits (if t then [] else beside_tasks (names_tasks v) n v.sight.tasks.items v.seats.items) ≡ true
-    go true = refl
-    go false = tasks_fit (names_tasks v) n v.sight.tasks.items v.seats.items
+beside_fits v n = each_beside (λ (s : List ℕ). fits s ≡ true) (record {
+  none = refl;
+  both = both_fit;
+  label = λ many l. both_fit (codes " (") (label_text many l ++ codes ")") refl (both_fit (label_text many l) (codes ")") (label_fits many l) refl);
+}) v n
 
 -- paths
 

@@ -61,9 +61,6 @@ taken_found n k es is = let a = at n k es is in why_found n a.0.why es a.0.is_wh
 
 -- the way goes back from a node to the one from which it was found
 
-abbrev pub any : Why → Bool
-any y = true
-
 nowhere : (k : ℕ) (es : List (Name × Why)) → way_to k es None ≡ []
 nowhere zero es = refl
 nowhere (suc k) es = refl
@@ -71,7 +68,7 @@ nowhere (suc k) es = refl
 pub record Way (v : View) (n : Name) (k j : ℕ) : Type 0 where
   pub behind : List Name
   pub is : way_to j v.sight.found (Some n) ≡ n ∷ behind
-  pub way : IsWay v any n behind
+  pub way : IsWay v n behind
   pub few : length behind < k
 
 way_by : (v : View) (n : Name) (k j : ℕ) (a : At n v.sight.found) (from : Option Name) → found_from a.why ≡ from → a.place < k
@@ -79,7 +76,7 @@ way_by : (v : View) (n : Name) (k j : ℕ) (a : At n v.sight.found) (from : Opti
 way_by v n k j a None is less rest = record {
   behind = [];
   is = ap (λ (y : Option Why). n ∷ way_to j v.sight.found (option_and_then found_from y)) a.is_why ∙ (ap (λ (o : Option Name). n ∷ way_to j v.sight.found o) is ∙ ap (λ (ns : List Name). n ∷ ns) (nowhere j v.sight.found));
-  way = (a.why, a.is_why, refl, is);
+  way = (a.why, a.is_why, is);
   few = omega (arith, less);
 }
 way_by v n k j a (Some d) is less rest =
@@ -88,7 +85,7 @@ way_by v n k j a (Some d) is less rest =
     record {
       behind = d ∷ more.behind;
       is = ap (λ (y : Option Why). n ∷ way_to j v.sight.found (option_and_then found_from y)) a.is_why ∙ (ap (λ (o : Option Name). n ∷ way_to j v.sight.found o) is ∙ ap (λ (ns : List Name). n ∷ ns) more.is);
-      way = (a.why, a.is_why, refl, is, more.way);
+      way = (a.why, a.is_why, is, more.way);
       few = omega (arith, less, shorter);
     }
 
@@ -107,15 +104,3 @@ way_from S w v sight (suc j) k n is small =
 
 pub the_way : (S : ℕ → Bool) (w : World) (v : View) (n : Name) → IsSight S w v.sight.found → is_found n v.sight.found ≡ true → Way v n (length v.sight.found) (length v.sight.found)
 the_way S w v n sight is = way_from S w v sight (length v.sight.found) (length v.sight.found) n (ap (is_found n) (take_all v.sight.found) ∙ is) (omega arith)
-
--- a way of which each step is of some kinds
-
-abbrev pub ok_by : (Why → Bool) → Option Why → Bool
-ok_by ok None = false
-ok_by ok (Some y) = ok y
-
-pub way_ok : (v : View) (ok : Why → Bool) (n : Name) (ns : List Name) → IsWay v any n ns → list_all (λ (m : Name). ok_by ok (why_of m v.sight.found)) (n ∷ ns) ≡ true → IsWay v ok n ns
-way_ok v ok n [] (y, is, fine, from) all = (y, is, ap (ok_by ok) (sym is) ∙ (and_parts (ok_by ok (why_of n v.sight.found)) true all).0, from)
-way_ok v ok n (d ∷ ds) (y, is, fine, from, rest) all =
-    let parts = and_parts (ok_by ok (why_of n v.sight.found)) (list_all (λ (m : Name). ok_by ok (why_of m v.sight.found)) (d ∷ ds)) all in
-    (y, is, ap (ok_by ok) (sym is) ∙ parts.0, from, way_ok v ok d ds rest parts.1)

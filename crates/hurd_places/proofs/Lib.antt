@@ -1,6 +1,7 @@
 pub mod PlaceLaws
 pub mod FitLaws
 pub mod CutLaws
+pub mod EachBeside
 pub mod StepLaws
 pub mod ApartLaws
 pub mod FoundWays

@@ -4,6 +4,7 @@ use Rattle.hurd_creds.specs.declared.name.Name.{Name}
 use Rattle.hurd_creds.specs.declared.name.TaskId.{TaskId}
 use Rattle.hurd_creds.specs.Names.{same_name}
 use Rattle.hurd_creds.proofs.NameLaws.{equal_if_same, same_name-itself}
+use Rattle.hurd_nodes.specs.Shown.{ServerInfo}
 use Rattle.hurd_machine.specs.World.{IsAmong, World, body_at, server_at}
 use Rattle.hurd_trans_iface.specs.Answers.{entry_of}
 use Rattle.hurd_sight.specs.Found.{why_of}
@@ -11,12 +12,12 @@ use Rattle.hurd_sight.specs.Parts.{is_in}
 use Rattle.hurd_sight.specs.Reach.{among}
 use Rattle.hurd_sight.specs.declared.found.Why.{Why}
 use Rattle.hurd_sight.specs.declared.found.Why.TheVariants as why
-use Rattle.hurd_views.specs.Views.{Views}
+use Rattle.hurd_views.specs.Views.{Views, row_at}
 use Rattle.hurd_views.specs.declared.view.View.{View}
-use Rattle.hurd_places.specs.Places.{count_to, is_alike, is_covered, is_wanted, label_of, label_of_tasks, label_or, label_text, level_along, covered_path, names_tasks, node_path, numbered, open_place, or_root, path_along, way_of}
+use Rattle.hurd_places.specs.Places.{count_to, is_alike, is_covered, is_wanted, label_of, label_of_tasks, label_or, label_text, level_along, covered_path, name_in, names_tasks, node_path, numbered, open_place, or_root, path_along, way_of}
 use Rattle.hurd_places.specs.Differ.{IsSmall, IsView, NodePlacesDiffer, OpenPlacesDiffer, PathsDiffer}
 use Rattle.hurd_places.proofs.ApartLaws.{Apart, full, ways_once}
-use Rattle.hurd_places.proofs.FoundWays.{any, the_way}
+use Rattle.hurd_places.proofs.FoundWays.{the_way}
 use Rattle.hurd_places.proofs.SeenFacts.{active_seen, child_named, reason, some_once}
 use Rattle.hurd_places.proofs.BesideLaws.{paths_alike}
 use Rattle.hurd_places.proofs.LabelLaws.{BothWanted, IsShort, label_there, labels_once, seats}
@@ -32,7 +33,7 @@ use Rattle.hurd_sentences.proofs.Bytes.{first_same}
 use Rattle.std.proofs.lemmas.Bool.{eqb-true}
 use Rattle.std.proofs.lemmas.List.{append_cancel_right}
 use Rattle.hurd_places.proofs.TargetLaws.{target_once}
-use Rattle.hurd_places.proofs.StepLaws.{held_rest, last, numbered_once}
+use Rattle.hurd_places.proofs.StepLaws.{child_name, held_rest, last, numbered_once}
 
 -- a count ends at one node
 
@@ -133,38 +134,15 @@ open_places_differ tasks w v o p is_view seen_o seen_p is =
 
 -- what tells nodes of a view apart
 
-apart : (tasks : List TaskId) (w : World) (v : View) → IsView tasks w v → Apart v any
+one_root : (w : World) (o : Option Name) (s t : Name) (i j : ServerInfo) → o ≡ Some s → o ≡ Some t → server_at w s ≡ Some i → server_at w t ≡ Some j → i.root ≡ j.root
+one_root w o s t i j is_s is_t is_i is_j = ap (λ (x : ServerInfo). x.root) (some_once i j (sym is_i ∙ (ap (server_at w) (some_once s t (sym is_s ∙ is_t)) ∙ is_j)))
+
+apart : (tasks : List TaskId) (w : World) (v : View) → IsView tasks w v → Apart v
 apart tasks w v is_view = record {
-  root = λ n m a b. (reason tasks w v n why.Root views a).holds ∙ sym (reason tasks w v m why.Root views b).holds;
-  child = λ d n m a b names.
-      some_once n m (sym (child_named tasks w v d n views a) ∙ (ap (λ (name : List ℕ). entry_of name (body_at w d)) names ∙ child_named tasks w v d m views b));
-  active = λ d n m a b.
-      let p = (reason tasks w v n (why.Active d) views a).holds in
-      let q = (reason tasks w v m (why.Active d) views b).holds in
-      let server = some_once p.0 q.0 (sym p.2 ∙ q.2) in
-      let info = some_once p.1 q.1 (sym p.3 ∙ (ap (server_at w) server ∙ q.3)) in
-      p.4 ∙ (ap (λ (i : _). i.root) info ∙ sym q.4);
+  once = once;
   covered = λ d n a.
       let r = reason tasks w v n (why.Active d) views a in
       ap (λ (o : Option Name). is_some o) (active_seen tasks w v d views (r.from d refl) ∙ r.holds.2);
-  parent = λ d n m a b.
-      let p = (reason tasks w v n (why.Parent d) views a).holds in
-      let q = (reason tasks w v m (why.Parent d) views b).holds in
-      some_once n m (sym p.2 ∙ (ap (λ (h : _). h.parent) (some_once p.0 q.0 (sym p.1 ∙ q.1)) ∙ q.2));
-  server_root = λ d n m a b.
-      let p = (reason tasks w v n (why.ServerRoot d) views a).holds in
-      let q = (reason tasks w v m (why.ServerRoot d) views b).holds in
-      let server = some_once p.0 q.0 (sym p.2 ∙ q.2) in
-      let info = some_once p.1 q.1 (sym p.3 ∙ (ap (server_at w) server ∙ q.3)) in
-      p.5 ∙ (ap (λ (i : _). i.root) info ∙ sym q.5);
-  target = λ d n m fine a b lasts. target_once tasks w v d n m views is_small.targets a b lasts;
-  held = λ n m fine a b lasts.
-      let p = (reason tasks w v n why.Held views a).holds in
-      let q = (reason tasks w v m why.Held views b).holds in
-      held_once tasks w v n m is_view p.0 q.0 p.1 q.1 p.2 q.2 lasts;
-  way = λ n m fine a b lasts. by_count (codes "way") why.Way n m refl a b lasts;
-  controlled = λ n m fine a b lasts. by_count (codes "controlled") why.Controlled n m refl a b lasts;
-  pending = λ n m fine a b lasts. by_count (codes "pending") why.Pending n m refl a b lasts;
 }
   where
     views : Views tasks w v
@@ -182,6 +160,32 @@ apart tasks w v is_view = record {
         count_once y n m v.sight.found alike a b
         (numbered_once word (count_to y n v.sight.found) (count_to y m v.sight.found) (omega (arith, most_n, small)) (omega (arith, most_m, small)) lasts)
 
+    once : (y : Why) (n m : Name) → why_of n v.sight.found ≡ Some y → why_of m v.sight.found ≡ Some y → last v n y ≡ last v m y → n ≡ m
+    once why.Root n m a b lasts = (reason tasks w v n why.Root views a).holds ∙ sym (reason tasks w v m why.Root views b).holds
+    once why.Held n m a b lasts =
+        let p = (reason tasks w v n why.Held views a).holds in
+        let q = (reason tasks w v m why.Held views b).holds in
+        held_once tasks w v n m is_view p.0 q.0 p.1 q.1 p.2 q.2 lasts
+    once why.Way n m a b lasts = by_count (codes "way") why.Way n m refl a b lasts
+    once why.Controlled n m a b lasts = by_count (codes "controlled") why.Controlled n m refl a b lasts
+    once why.Pending n m a b lasts = by_count (codes "pending") why.Pending n m refl a b lasts
+    once (why.Child d) n m a b lasts =
+        let names = child_name (name_in (row_at v.rows d).body n) (name_in (row_at v.rows d).body m) lasts in
+        some_once n m (sym (child_named tasks w v d n views a) ∙ (ap (λ (name : List ℕ). entry_of name (body_at w d)) names ∙ child_named tasks w v d m views b))
+    once (why.Active d) n m a b lasts =
+        let p = (reason tasks w v n (why.Active d) views a).holds in
+        let q = (reason tasks w v m (why.Active d) views b).holds in
+        p.4 ∙ (one_root w _ p.0 q.0 p.1 q.1 p.2 q.2 p.3 q.3 ∙ sym q.4)
+    once (why.Parent d) n m a b lasts =
+        let p = (reason tasks w v n (why.Parent d) views a).holds in
+        let q = (reason tasks w v m (why.Parent d) views b).holds in
+        some_once n m (sym p.2 ∙ (ap (λ (h : _). h.parent) (some_once p.0 q.0 (sym p.1 ∙ q.1)) ∙ q.2))
+    once (why.ServerRoot d) n m a b lasts =
+        let p = (reason tasks w v n (why.ServerRoot d) views a).holds in
+        let q = (reason tasks w v m (why.ServerRoot d) views b).holds in
+        p.5 ∙ (one_root w _ p.0 q.0 p.1 q.1 p.2 q.2 p.3 q.3 ∙ sym q.5)
+    once (why.Target d) n m a b lasts = target_once tasks w v d n m views is_small.targets a b lasts
+
 -- the path of a node is the one along its way
 
 along : (v : View) (n : Name) (ns : List Name) → way_of v n ≡ n ∷ ns → node_path v n ≡ or_root (full v n ns)
@@ -194,7 +198,7 @@ paths_differ tasks w v n m is_view found_n found_m is =
     let b = the_way (among tasks) w v m is_view.views.looks.found found_m in
     let size_a = a.few in
     let size_b = b.few in
-    ways_once v any n m a.behind b.behind (apart tasks w v is_view) (omega (arith, size_a, small)) (omega (arith, size_b, small)) a.way b.way
+    ways_once v n m a.behind b.behind (apart tasks w v is_view) (omega (arith, size_a, small)) (omega (arith, size_b, small)) a.way b.way
     (sym (along v n a.behind a.is) ∙ (is ∙ along v m b.behind b.is))
 
 pub node_places_differ : NodePlacesDiffer

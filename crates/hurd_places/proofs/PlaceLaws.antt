@@ -70,17 +70,8 @@ count_ends y n es i e count more all at is adds so_far = let step = counts_on y 
 -- a path goes on along a way
 
 level_by_most : (y : Option Why) (k : ℕ) → level_by y k ≤ suc k
-level_by_most None k = omega arith
-level_by_most (Some why.Root) k = omega arith
-level_by_most (Some why.Held) k = omega arith
-level_by_most (Some why.Way) k = omega arith
-level_by_most (Some why.Controlled) k = omega arith
-level_by_most (Some why.Pending) k = omega arith
-level_by_most (Some (why.Child d)) k = omega arith
-level_by_most (Some (why.Parent d)) k = omega arith
 level_by_most (Some (why.Active d)) k = omega arith
-level_by_most (Some (why.ServerRoot d)) k = omega arith
-level_by_most (Some (why.Target d)) k = omega arith
+level_by_most _ k = omega arith
 
 pub level_most : (v : View) (ns : List Name) → level_along v ns ≤ length ns
 level_most v [] = omega arith

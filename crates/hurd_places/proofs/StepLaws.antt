@@ -8,6 +8,7 @@ use Rattle.hurd_words.specs.Printing.{spaced, text_if}
 use Rattle.hurd_sentences.specs.Spelling.{spelled_name}
 use Rattle.hurd_sentences.proofs.Bytes.{all_both, first_same}
 use Rattle.hurd_sentences.proofs.SpellsBack.{spells_back}
+use Rattle.hurd_sight.specs.Found.{found_from}
 use Rattle.hurd_sight.specs.declared.found.Why.{Why}
 use Rattle.hurd_sight.specs.declared.found.Why.TheVariants as why
 use Rattle.hurd_views.specs.Views.{row_at}
@@ -34,26 +35,11 @@ pub data Sort : Why → Type 0 where
 pub sort : (y : Why) → Sort y
 sort why.Root = OfRoot
 sort (why.Active m) = OfActive m
-sort why.Held = OfStem why.Held refl
-sort why.Way = OfStem why.Way refl
-sort why.Controlled = OfStem why.Controlled refl
-sort why.Pending = OfStem why.Pending refl
-sort (why.Child d) = OfStem (why.Child d) refl
-sort (why.Parent d) = OfStem (why.Parent d) refl
-sort (why.ServerRoot d) = OfStem (why.ServerRoot d) refl
-sort (why.Target d) = OfStem (why.Target d) refl
+sort y = OfStem y refl
 
 pub stem_level : (y : Why) (k : ℕ) → is_stem y ≡ true → level_by (Some y) k ≡ 0
-stem_level why.Root k is = refl
 stem_level (why.Active m) k is = absurd (true≢false (sym is))
-stem_level why.Held k is = refl
-stem_level why.Way k is = refl
-stem_level why.Controlled k is = refl
-stem_level why.Pending k is = refl
-stem_level (why.Child d) k is = refl
-stem_level (why.Parent d) k is = refl
-stem_level (why.ServerRoot d) k is = refl
-stem_level (why.Target d) k is = refl
+stem_level _ k is = refl
 
 -- the last step of a node, and what stands before it
 
@@ -95,13 +81,7 @@ pub split : (v : View) (n : Name) (path : List ℕ) (k : ℕ) (y : Why) → is_s
 split v n path k why.Root is = absurd (true≢false (sym is))
 split v n path k (why.Active m) is = absurd (true≢false (sym is))
 split v n path k (why.Child d) is = child_split (name_in (row_at v.rows d).body n) (covered_path (is_covered v d) path k)
-split v n path k why.Held is = refl
-split v n path k why.Way is = refl
-split v n path k why.Controlled is = refl
-split v n path k why.Pending is = refl
-split v n path k (why.Parent d) is = refl
-split v n path k (why.ServerRoot d) is = refl
-split v n path k (why.Target d) is = refl
+split v n path k _ is = refl
 
 -- it begins with a slash or a bracket, and has no other
 
@@ -202,126 +182,44 @@ last_kind v n why.Root is = absurd (true≢false (sym is))
 last_kind v n (why.Active m) is = absurd (true≢false (sym is))
 last_kind v n why.Held is = held_kind (names_tasks v) (label_of v (wanted.Node n))
 last_kind v n (why.Child d) is = child_kind (name_in (row_at v.rows d).body n)
-last_kind v n why.Way is = refl
-last_kind v n why.Controlled is = refl
-last_kind v n why.Pending is = refl
-last_kind v n (why.Parent d) is = refl
-last_kind v n (why.ServerRoot d) is = refl
-last_kind v n (why.Target d) is = refl
+last_kind v n _ is = refl
 
-pub kind_small : (y : Why) → is_stem y ≡ true → kind y ≡ 9 → ⊥
-kind_small why.Root stem is = absurd (true≢false (sym stem))
-kind_small (why.Active m) stem is = absurd (true≢false (sym stem))
-kind_small why.Held stem is = omega (arith, is)
-kind_small why.Way stem is = omega (arith, is)
-kind_small why.Controlled stem is = omega (arith, is)
-kind_small why.Pending stem is = omega (arith, is)
-kind_small (why.Child d) stem is = omega (arith, is)
-kind_small (why.Parent d) stem is = omega (arith, is)
-kind_small (why.ServerRoot d) stem is = omega (arith, is)
-kind_small (why.Target d) stem is = omega (arith, is)
-
--- two of one kind
-pub data Alike : Why → Why → Type 0 where
-  BothHeld : Alike why.Held why.Held
-  BothWay : Alike why.Way why.Way
-  BothControlled : Alike why.Controlled why.Controlled
-  BothPending : Alike why.Pending why.Pending
-  BothChild : (d e : Name) → Alike (why.Child d) (why.Child e)
-  BothParent : (d e : Name) → Alike (why.Parent d) (why.Parent e)
-  BothServerRoot : (d e : Name) → Alike (why.ServerRoot d) (why.ServerRoot e)
-  BothTarget : (d e : Name) → Alike (why.Target d) (why.Target e)
-
-pub alike : (y z : Why) → is_stem y ≡ true → is_stem z ≡ true → kind y ≡ kind z → Alike y z
-alike why.Root z a b is = absurd (true≢false (sym a))
-alike (why.Active m) z a b is = absurd (true≢false (sym a))
-alike why.Held why.Root a b is = absurd (true≢false (sym b))
-alike why.Held (why.Active m) a b is = absurd (true≢false (sym b))
-alike why.Held why.Held a b is = BothHeld
-alike why.Held why.Way a b is = absurd (omega (arith, is))
-alike why.Held why.Controlled a b is = absurd (omega (arith, is))
-alike why.Held why.Pending a b is = absurd (omega (arith, is))
-alike why.Held (why.Child e) a b is = absurd (omega (arith, is))
-alike why.Held (why.Parent e) a b is = absurd (omega (arith, is))
-alike why.Held (why.ServerRoot e) a b is = absurd (omega (arith, is))
-alike why.Held (why.Target e) a b is = absurd (omega (arith, is))
-alike why.Way why.Root a b is = absurd (true≢false (sym b))
-alike why.Way (why.Active m) a b is = absurd (true≢false (sym b))
-alike why.Way why.Held a b is = absurd (omega (arith, is))
-alike why.Way why.Way a b is = BothWay
-alike why.Way why.Controlled a b is = absurd (omega (arith, is))
-alike why.Way why.Pending a b is = absurd (omega (arith, is))
-alike why.Way (why.Child e) a b is = absurd (omega (arith, is))
-alike why.Way (why.Parent e) a b is = absurd (omega (arith, is))
-alike why.Way (why.ServerRoot e) a b is = absurd (omega (arith, is))
-alike why.Way (why.Target e) a b is = absurd (omega (arith, is))
-alike why.Controlled why.Root a b is = absurd (true≢false (sym b))
-alike why.Controlled (why.Active m) a b is = absurd (true≢false (sym b))
-alike why.Controlled why.Held a b is = absurd (omega (arith, is))
-alike why.Controlled why.Way a b is = absurd (omega (arith, is))
-alike why.Controlled why.Controlled a b is = BothControlled
-alike why.Controlled why.Pending a b is = absurd (omega (arith, is))
-alike why.Controlled (why.Child e) a b is = absurd (omega (arith, is))
-alike why.Controlled (why.Parent e) a b is = absurd (omega (arith, is))
-alike why.Controlled (why.ServerRoot e) a b is = absurd (omega (arith, is))
-alike why.Controlled (why.Target e) a b is = absurd (omega (arith, is))
-alike why.Pending why.Root a b is = absurd (true≢false (sym b))
-alike why.Pending (why.Active m) a b is = absurd (true≢false (sym b))
-alike why.Pending why.Held a b is = absurd (omega (arith, is))
-alike why.Pending why.Way a b is = absurd (omega (arith, is))
-alike why.Pending why.Controlled a b is = absurd (omega (arith, is))
-alike why.Pending why.Pending a b is = BothPending
-alike why.Pending (why.Child e) a b is = absurd (omega (arith, is))
-alike why.Pending (why.Parent e) a b is = absurd (omega (arith, is))
-alike why.Pending (why.ServerRoot e) a b is = absurd (omega (arith, is))
-alike why.Pending (why.Target e) a b is = absurd (omega (arith, is))
-alike (why.Child d) why.Root a b is = absurd (true≢false (sym b))
-alike (why.Child d) (why.Active m) a b is = absurd (true≢false (sym b))
-alike (why.Child d) why.Held a b is = absurd (omega (arith, is))
-alike (why.Child d) why.Way a b is = absurd (omega (arith, is))
-alike (why.Child d) why.Controlled a b is = absurd (omega (arith, is))
-alike (why.Child d) why.Pending a b is = absurd (omega (arith, is))
-alike (why.Child d) (why.Child e) a b is = BothChild d e
-alike (why.Child d) (why.Parent e) a b is = absurd (omega (arith, is))
-alike (why.Child d) (why.ServerRoot e) a b is = absurd (omega (arith, is))
-alike (why.Child d) (why.Target e) a b is = absurd (omega (arith, is))
-alike (why.Parent d) why.Root a b is = absurd (true≢false (sym b))
-alike (why.Parent d) (why.Active m) a b is = absurd (true≢false (sym b))
-alike (why.Parent d) why.Held a b is = absurd (omega (arith, is))
-alike (why.Parent d) why.Way a b is = absurd (omega (arith, is))
-alike (why.Parent d) why.Controlled a b is = absurd (omega (arith, is))
-alike (why.Parent d) why.Pending a b is = absurd (omega (arith, is))
-alike (why.Parent d) (why.Child e) a b is = absurd (omega (arith, is))
-alike (why.Parent d) (why.Parent e) a b is = BothParent d e
-alike (why.Parent d) (why.ServerRoot e) a b is = absurd (omega (arith, is))
-alike (why.Parent d) (why.Target e) a b is = absurd (omega (arith, is))
-alike (why.ServerRoot d) why.Root a b is = absurd (true≢false (sym b))
-alike (why.ServerRoot d) (why.Active m) a b is = absurd (true≢false (sym b))
-alike (why.ServerRoot d) why.Held a b is = absurd (omega (arith, is))
-alike (why.ServerRoot d) why.Way a b is = absurd (omega (arith, is))
-alike (why.ServerRoot d) why.Controlled a b is = absurd (omega (arith, is))
-alike (why.ServerRoot d) why.Pending a b is = absurd (omega (arith, is))
-alike (why.ServerRoot d) (why.Child e) a b is = absurd (omega (arith, is))
-alike (why.ServerRoot d) (why.Parent e) a b is = absurd (omega (arith, is))
-alike (why.ServerRoot d) (why.ServerRoot e) a b is = BothServerRoot d e
-alike (why.ServerRoot d) (why.Target e) a b is = absurd (omega (arith, is))
-alike (why.Target d) why.Root a b is = absurd (true≢false (sym b))
-alike (why.Target d) (why.Active m) a b is = absurd (true≢false (sym b))
-alike (why.Target d) why.Held a b is = absurd (omega (arith, is))
-alike (why.Target d) why.Way a b is = absurd (omega (arith, is))
-alike (why.Target d) why.Controlled a b is = absurd (omega (arith, is))
-alike (why.Target d) why.Pending a b is = absurd (omega (arith, is))
-alike (why.Target d) (why.Child e) a b is = absurd (omega (arith, is))
-alike (why.Target d) (why.Parent e) a b is = absurd (omega (arith, is))
-alike (why.Target d) (why.ServerRoot e) a b is = absurd (omega (arith, is))
-alike (why.Target d) (why.Target e) a b is = BothTarget d e
+pub kind_small : (y : Why) → kind y ≡ 9 → ⊥
+kind_small why.Root is = omega (arith, is)
+kind_small _ is = omega (arith, is)
 
 -- a step by an entry says its name
-pub child_once : (names others path more : List ℕ) → child_front names path ≡ child_front others more → child_last names ≡ child_last others → (path ≡ more) × (names ≡ others)
-child_once [] [] path more fronts lasts = (append_cancel_right path more (47 ∷ []) fronts, refl)
-child_once [] (c ∷ cs) path more fronts lasts = let first = ap (λ (t : List ℕ). get_or t 0 0) lasts in absurd (omega (arith, first))
-child_once (b ∷ bs) [] path more fronts lasts = let first = ap (λ (t : List ℕ). get_or t 0 0) lasts in absurd (omega (arith, first))
-child_once (b ∷ bs) (c ∷ cs) path more fronts lasts = (fronts, spells_back true (b ∷ bs) (c ∷ cs) (first_same 47 47 (spelled_name (b ∷ bs)) (spelled_name (c ∷ cs)) lasts).1)
+
+pub child_name : (names others : List ℕ) → child_last names ≡ child_last others → names ≡ others
+child_name [] [] lasts = refl
+child_name [] (c ∷ cs) lasts = let first = ap (λ (t : List ℕ). get_or t 0 0) lasts in absurd (omega (arith, first))
+child_name (b ∷ bs) [] lasts = let first = ap (λ (t : List ℕ). get_or t 0 0) lasts in absurd (omega (arith, first))
+child_name (b ∷ bs) (c ∷ cs) lasts = spells_back true (b ∷ bs) (c ∷ cs) (first_same 47 47 (spelled_name (b ∷ bs)) (spelled_name (c ∷ cs)) lasts).1
+
+child_path : (names others path more : List ℕ) → names ≡ others → child_front names path ≡ child_front others more → path ≡ more
+child_path names others path more same fronts = go names (fronts ∙ ap (λ (name : List ℕ). child_front name more) (sym same))
+  where
+    go : (name : List ℕ) → child_front name path ≡ child_front name more → path ≡ more
+    go [] is = append_cancel_right path more (47 ∷ []) is
+    go (b ∷ bs) is = is
+
+-- steps that are alike have one reason, where the nodes from which they go are told apart
+pub one_why : (v : View) (n m : Name) (p q : List ℕ) (k j : ℕ) (y z : Why) → is_stem y ≡ true → kind y ≡ kind z → front v n p k y ≡ front v m q j z → last v n y ≡ last v m z
+    → ((d e : Name) → found_from y ≡ Some d → found_from z ≡ Some e → covered_path (is_covered v d) p k ≡ covered_path (is_covered v e) q j → d ≡ e) → y ≡ z
+one_why v n m p q k j why.Root z stem is fronts lasts from = absurd (true≢false (sym stem))
+one_why v n m p q k j (why.Active d) z stem is fronts lasts from = absurd (true≢false (sym stem))
+one_why v n m p q k j why.Held why.Held stem is fronts lasts from = refl
+one_why v n m p q k j why.Way why.Way stem is fronts lasts from = refl
+one_why v n m p q k j why.Controlled why.Controlled stem is fronts lasts from = refl
+one_why v n m p q k j why.Pending why.Pending stem is fronts lasts from = refl
+one_why v n m p q k j (why.Child d) (why.Child e) stem is fronts lasts from =
+    let names = name_in (row_at v.rows d).body n in
+    let others = name_in (row_at v.rows e).body m in
+    ap (λ (x : Name). why.Child x) (from d e refl refl (child_path names others (covered_path (is_covered v d) p k) (covered_path (is_covered v e) q j) (child_name names others lasts) fronts))
+one_why v n m p q k j (why.Parent d) (why.Parent e) stem is fronts lasts from = ap (λ (x : Name). why.Parent x) (from d e refl refl fronts)
+one_why v n m p q k j (why.ServerRoot d) (why.ServerRoot e) stem is fronts lasts from = ap (λ (x : Name). why.ServerRoot x) (from d e refl refl fronts)
+one_why v n m p q k j (why.Target d) (why.Target e) stem is fronts lasts from = ap (λ (x : Name). why.Target x) (from d e refl refl fronts)
+one_why v n m p q k j _ _ stem is fronts lasts from = absurd (omega (arith, is))
 
 -- no step by an entry is a slash alone
 pub not_slash : (v : View) (n : Name) (y : Why) → is_stem y ≡ true → last v n y ≡ 47 ∷ [] → ⊥
@@ -332,13 +230,7 @@ not_slash v n (why.Child d) stem is = go (name_in (row_at v.rows d).body n) is
     go : (name : List ℕ) → child_last name ≡ 47 ∷ [] → ⊥
     go [] same = let first = ap (λ (t : List ℕ). get_or t 0 0) same in omega (arith, first)
     go (b ∷ bs) same = spelled_some b bs (first_same 47 47 (spelled_name (b ∷ bs)) [] same).1
-not_slash v n why.Held stem is = let first = ap (λ (t : List ℕ). get_or t 0 0) is in omega (arith, first)
-not_slash v n why.Way stem is = let first = ap (λ (t : List ℕ). get_or t 0 0) is in omega (arith, first)
-not_slash v n why.Controlled stem is = let first = ap (λ (t : List ℕ). get_or t 0 0) is in omega (arith, first)
-not_slash v n why.Pending stem is = let first = ap (λ (t : List ℕ). get_or t 0 0) is in omega (arith, first)
-not_slash v n (why.Parent d) stem is = let first = ap (λ (t : List ℕ). get_or t 0 0) is in omega (arith, first)
-not_slash v n (why.ServerRoot d) stem is = let first = ap (λ (t : List ℕ). get_or t 0 0) is in omega (arith, first)
-not_slash v n (why.Target d) stem is = let first = ap (λ (t : List ℕ). get_or t 0 0) is in omega (arith, first)
+not_slash v n _ stem is = let first = ap (λ (t : List ℕ). get_or t 0 0) is in omega (arith, first)
 
 -- a number in brackets is that of one number
 pub numbered_once : (word : List ℕ) (a b : ℕ) → a < 2 ^ 64 → b < 2 ^ 64 → numbered word a ≡ numbered word b → a ≡ b
