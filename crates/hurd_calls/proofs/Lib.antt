@@ -1,3 +1,2 @@
 pub mod CallingLaws
 pub mod WayLaws
-pub mod ComplaintLaws

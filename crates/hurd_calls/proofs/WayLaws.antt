@@ -1,5 +1,5 @@
 -- How far a list of calls is.
-use Rattle.std.proofs.Common.{◌≡◌, ◌+◌, ◌∙◌, codes, ℕ, List, [], ◌∷◌, Some, None, ◌<◌, refl, sym, ap, arith, map, length, nat_lt, slice_index_or, true}
+use Rattle.std.proofs.Common.{◌≡◌, ◌+◌, ◌∙◌, codes, ℕ, List, [], ◌∷◌, Some, None, ◌<◌, refl, sym, ap, arith, map, length, slice_index_or}
 use Rattle.std.proofs.lemmas.Bool.{lt-ltb}
 use Rattle.hurd_creds.specs.Limits.{most_script}
 use Rattle.hurd_kinds.specs.Boxes.{box_meaning}
@@ -13,15 +13,12 @@ use Rattle.hurd_calls.specs.Lists.{lists, way_of}
 use Rattle.hurd_calls.specs.Making.{after_call, part_of, parts_of}
 
 -- a list that is too long is bad at line 0
-is_long : (xs : List ℕ) → 1048576 < length xs → nat_lt most_script (length xs) ≡ true
-is_long xs long = lt-ltb _ _ long
-
 said_long : (xs : List ℕ) → 1048576 < length xs → lists.complaint xs ≡ codes ": longer than 1048576 bytes\n"
-said_long xs long = rw (is_long xs long) refl
+said_long xs long = rw (lt-ltb most_script (length xs) long) refl
 
 pub lists_limited : HasLimit lists.bad lists.complaint
 lists_limited = record {
-  cut = λ xs long. rw (is_long xs long) refl;
+  cut = λ xs long. rw (lt-ltb most_script (length xs) long) refl;
   same = λ xs ys long longer. said_long xs long ∙ sym (said_long ys longer);
 }
 

@@ -2,7 +2,7 @@
 //!
 //! `RunningCalls` reads a list, begins the world of its tasks, and tells a part for each call: its line, and the machine's reply. For a program with boxes of
 //! its own: `parsed` reads a list, and `begun` begins the world of its tasks; `brought` makes the server that a call brings, and `part` makes the call with
-//! it, and gives what is printed of it, if the reply isn't want of memory, as `lacks_memory` tells.
+//! it, and gives what is printed of it, if the reply isn't want of memory, as `lacks_memory` tells. `task_of` is the task that a word numbers.
 #![tactic(auto)]
 
 mod beginning;
@@ -11,4 +11,4 @@ mod list;
 
 pub use beginning::{begun, complaint_of, parsed};
 pub use calling::{brought, lacks_memory, part};
-pub use list::RunningCalls;
+pub use list::{RunningCalls, task_of};

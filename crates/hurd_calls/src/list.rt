@@ -1,5 +1,7 @@
 //! A list of calls on its way.
 ghost use Rattle.std.specs.Prelude.{◌≡◌, ◌+◌, ◌<◌, ◌≤◌, length};
+ghost use Rattle.std.specs.Option.{option_map};
+ghost use Rattle.hurd_creds.specs.declared.name.TaskId.{TaskId};
 ghost use Rattle.hurd_calls.specs.Lists.{lists, way_of};
 ghost use Rattle.hurd_calls.specs.Tasks.{noun_of, task_of};
 
@@ -33,12 +35,12 @@ fn noun(tasks: &[TaskId]) -> &'static [u8]
 }
 
 /// The task that a word numbers, of so many.
-fn task_of(count: usize, word: &str) -> Option<u32>
-    ensures { result ≡ task_of count word.now }
+pub fn task_of(count: usize, word: &str) -> Option<TaskId>
+    ensures { option_map (λ (t : TaskId). t.0) result ≡ task_of count word.now }
 {
     let task = number(word)?;
     if (task as usize) < count {
-        Some(task)
+        Some(TaskId(task))
     } else {
         None
     }
@@ -107,10 +109,7 @@ impl Telling for RunningCalls {
     }
 
     fn finds(&self, name: &str) -> Option<TaskId> {
-        match task_of(self.tasks, name) {
-            Some(task) => Some(TaskId(task)),
-            None => None,
-        }
+        task_of(self.tasks, name)
     }
 
     fn called(alloc: Global, word: &str, tasks: &[TaskId]) -> Result<Vec<u8>, AllocError> {

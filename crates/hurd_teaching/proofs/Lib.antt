@@ -3,11 +3,10 @@ pub mod StepLaws
 pub mod Following
 pub mod ShownLaws
 pub mod ProgramLaws
-pub mod SeenLaws
 pub mod LookLaws
 pub mod OneText
 pub mod ReadingLaws
-pub mod PrintLaws
 pub mod SayingLaws
 pub mod WatchLaws
 pub mod UnmovedLaws
+pub mod SeenLaws

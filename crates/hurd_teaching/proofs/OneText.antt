@@ -1,7 +1,8 @@
 -- A program of learners prints one text of each.
 use Rattle.std.proofs.Common.{◌≡◌, ◌∙◌, inl, inr, sym, refl, ap, subst, not, ℕ, ◌+◌, Bool, true, false, List, [], ◌∷◌, ◌++◌, map, append_assoc}
-use Rattle.std.specs.Prelude.{Option, Some}
+use Rattle.std.specs.Prelude.{Option}
 use Rattle.std.proofs.lemmas.List.{map-append}
+use Rattle.std.proofs.lemmas.Option.{same_Some}
 use Rattle.hurd_creds.specs.declared.name.TaskId.{TaskId}
 use Rattle.hurd_machine.specs.World.{World}
 use Rattle.hurd_dialogue.specs.Parts.{Part, texts}
@@ -72,9 +73,6 @@ numbers_back : (ts : List TaskId) → map (λ (n : ℕ). record { 0 = n }) (numb
 numbers_back [] = refl
 numbers_back (t ∷ ts) = ap (λ (us : List TaskId). t ∷ us) (numbers_back ts)
 
-same_some : {X : Type 0} (x y : X) → Some x ≡ Some y → x ≡ y
-same_some x y e = cc
-
 pub alike : (named : Option (List ℕ)) (called : List TaskId → List ℕ) (asked : List Bool) (from : ℕ) (l m : Learners) → AreNamed named called asked from l → AreNamed named called asked from m → AreAlike l m
 alike named called asked from l m x y = record {
   tasks = tasks;
@@ -86,7 +84,7 @@ alike named called asked from l m x y = record {
 }
   where
     same : numbers l.tasks.items ≡ numbers m.tasks.items
-    same = same_some (numbers l.tasks.items) (numbers m.tasks.items) (sym x.tasks ∙ y.tasks)
+    same = same_Some (numbers l.tasks.items) (numbers m.tasks.items) (sym x.tasks ∙ y.tasks)
 
     tasks : l.tasks.items ≡ m.tasks.items
     tasks = sym (numbers_back l.tasks.items) ∙ (ap (map (λ (n : ℕ). record { 0 = n })) same ∙ numbers_back m.tasks.items)

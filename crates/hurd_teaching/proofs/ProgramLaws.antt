@@ -18,10 +18,6 @@ use Rattle.hurd_teaching.specs.Shown.{NotShown, Shown}
 use Rattle.hurd_teaching.specs.Telling.{Shows}
 use Rattle.hurd_teaching.specs.declared.learners.Learners.{Learners}
 
--- the same names are found by what finds the same
-same_tasks : (f g : List ℕ → Option ℕ) → ((name : List ℕ) → f name ≡ g name) → f ≡ g
-same_tasks f g same = λ i. λ name. same name i
-
 -- a program that prints all in one piece printed it, or a front of it
 pub adds_piece : (p : Program) {W : Type 0} (output : Output W) (was : Bool) (before after : Option (List ℕ)) (text whole : List ℕ) (ended : Result (Unit {0}) Fault)
     → IsTaken p text → p.IsAll text whole → ((front : List ℕ) → IsFront front whole → p.IsPart text front) → OnOk ended (Appends before after whole × (output.failed ≡ was))
@@ -32,7 +28,7 @@ adds_piece p output was before after text whole (Err fault) taken all part ok er
 
 module _ (sort : Sort) (text word : List ℕ) (way : Way) (begins : Begins sort text way) where
   finds_same : way.finds ≡ sort.finds text
-  finds_same = same_tasks way.finds (sort.finds text) begins.finds
+  finds_same = λ i. λ name. begins.finds name i
 
   -- somebody is named who isn't in it
   pub nobody_adds : (p : Program) → p.bad text ≡ sort.bad text → p.known text ≡ is_some (tasks_named (sort.finds text) word) → (before : Option (List ℕ))

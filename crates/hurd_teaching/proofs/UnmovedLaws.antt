@@ -1,7 +1,7 @@
 -- What some tasks see where none of the parts that were touched was seen.
-use Rattle.std.proofs.Common.{◌≡◌, ◌∙◌, inl, inr, refl, sym, ap, subst, ℕ, Bool, true, false, true≢false, not, List, [], ◌∷◌, map, Option, Some, None}
-use Rattle.std.specs.Prelude.{◌||◌}
+use Rattle.std.proofs.Common.{◌≡◌, ◌∙◌, inl, inr, sym, ap, subst, ℕ, Bool, true, false, true≢false, List, [], ◌∷◌, map, Option, Some}
 use Rattle.std.specs.List.{list_any}
+use Rattle.std.proofs.lemmas.Bool.{not-true, or_parts}
 use Rattle.hurd_creds.specs.declared.name.TaskId.{TaskId}
 use Rattle.hurd_machine.specs.World.{World, IsAmong}
 use Rattle.hurd_machine.specs.Sight.{Part, SameView}
@@ -23,29 +23,18 @@ use Rattle.hurd_lessons.proofs.NothingLaws.{nothing_between}
 use Rattle.hurd_teaching.specs.Telling.{SaysOf}
 use Rattle.hurd_teaching.specs.Watched.{LearnedSince, Learns, Sees, misses}
 
-none_told : (f : SeenPart → Bool) (x : SeenPart) (xs : List SeenPart) → list_any f (x ∷ xs) ≡ false → (f x ≡ false) × (list_any f xs ≡ false)
-none_told f x xs none = go (f x) refl none
-  where
-    go : (t : Bool) → f x ≡ t → (f x || list_any f xs) ≡ false → (f x ≡ false) × (list_any f xs ≡ false)
-    go true is or = absurd (true≢false (sym (ap (λ (u : Bool). u || list_any f xs) is) ∙ or))
-    go false is or = (is, sym (ap (λ (u : Bool). u || list_any f xs) is) ∙ or)
-
 -- of parts that a view doesn't tell none is seen
 none_seen : (tasks : List TaskId) (w : World) (v : View) (parts : List SeenPart) → Views tasks w v → list_any (tells_in v) parts ≡ false
     → (p : Part) → IsAmong p (map part_of parts) → sight.Sees (among tasks) w p → ⊥
 none_seen tasks w v [] views none p at sees = at
 none_seen tasks w v (q ∷ qs) views none p (inl same) sees =
     let told : tells_in v q ≡ true = (views_tell_parts tasks w v q views).1 (subst (sight.Sees (among tasks) w) (sym same) sees) in
-    absurd (true≢false (sym told ∙ (none_told (tells_in v) q qs none).0))
-none_seen tasks w v (q ∷ qs) views none p (inr later) sees = none_seen tasks w v qs views (none_told (tells_in v) q qs none).1 p later sees
-
-is_false : (b : Bool) → not b ≡ true → b ≡ false
-is_false true is = absurd (true≢false (sym is))
-is_false false is = refl
+    absurd (true≢false (sym told ∙ (or_parts (tells_in v q) (list_any (tells_in v) qs) none).0))
+none_seen tasks w v (q ∷ qs) views none p (inr later) sees = none_seen tasks w v qs views (or_parts (tells_in v q) (list_any (tells_in v) qs) none).1 p later sees
 
 missed : (tasks : List TaskId) (w : World) (v : View) (noted : Noted) → Views tasks w v → misses (listed noted) (Some v) ≡ true → (p : Part) → IsNoted noted p → sight.Sees (among tasks) w p → ⊥
 missed tasks w v All views is p at sees = absurd (true≢false (sym is))
-missed tasks w v (These parts) views is p at sees = none_seen tasks w v parts views (is_false (list_any (tells_in v) parts) is) p at sees
+missed tasks w v (These parts) views is p at sees = none_seen tasks w v parts views (not-true (list_any (tells_in v) parts) is) p at sees
 
 -- what some tasks saw is what they see, where nothing of it was touched
 pub still_sees : (tasks : List TaskId) (w x : World) (start noted : Noted) (seen : Option View) → Sound w → NotesWhatIsTouched (record { world = w; noted = start }) (record { world = x; noted = noted })

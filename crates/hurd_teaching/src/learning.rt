@@ -1,5 +1,5 @@
 //! A text from its beginning to the last line, with what is learned on the way.
-ghost use Rattle.std.specs.Prelude.{◌≡◌, ◌≢◌, true, Err, None, IfErr, OnOk};
+ghost use Rattle.std.specs.Prelude.{◌≡◌, ◌≢◌, true, Err, IfErr, OnOk};
 ghost use Rattle.hurd_machine.specs.Sound.{Sound};
 ghost use Rattle.hurd_terminal.specs.Runs.{Adds};
 ghost use Rattle.hurd_teaching.specs.Programs.{learning};
@@ -22,27 +22,6 @@ fn learn<T: Telling, W: Write>(
     alloc: Global,
     telling: &mut T,
     learners: &Learners,
-    watch: &mut Watch,
-    output: &mut Output<W>,
-) -> Result<(), Fault>
-    requires anew { watch.old.seen ≡ None }
-    requires begun { (T.way telling.old).told ≡ 0 }
-    requires sound { Sound (T.way telling.old).world }
-    ensures ok { OnOk result (Shown learners.now T.sort.thing (T.way telling.old).world (T.way telling.old).left (W.contents output.old.writer) (W.contents output.new.writer)) }
-    ensures err { IfErr result (λ fault. NotShown learners.now T.sort.thing (T.way telling.old).world (T.way telling.old).left
-        output.new (W.contents output.old.writer) fault (W.contents output.new.writer)) }
-{
-    let mut tally = Tally::new();
-    tell_all(alloc, telling, learners, watch, &mut tally, output)?;
-    let line = tally.line(alloc, learners.names.as_slice(), T::thing())?;
-    output.print(line.as_slice())
-}
-
-/// The same, with nothing seen yet.
-fn learn_anew<T: Telling, W: Write>(
-    alloc: Global,
-    telling: &mut T,
-    learners: &Learners,
     output: &mut Output<W>,
 ) -> Result<(), Fault>
     requires begun { (T.way telling.old).told ≡ 0 }
@@ -52,7 +31,10 @@ fn learn_anew<T: Telling, W: Write>(
         output.new (W.contents output.old.writer) fault (W.contents output.new.writer)) }
 {
     let mut watch = Watch::new();
-    learn(alloc, telling, learners, &mut watch, output)
+    let mut tally = Tally::new();
+    tell_all(alloc, telling, learners, &mut watch, &mut tally, output)?;
+    let line = tally.line(alloc, learners.names.as_slice(), T::thing())?;
+    output.print(line.as_slice())
 }
 
 /// Begins a text, and prints all that it tells, with what those learn whom a word names, and the last line.
@@ -71,7 +53,7 @@ pub fn learn_text<T: Telling, W: Write>(
 {
     let mut telling = T::begun(alloc, text)?;
     match learners_of(alloc, &*telling, word, text)? {
-        Some(learners) => learn_anew(alloc, &mut *telling, &learners, output),
+        Some(learners) => learn(alloc, &mut *telling, &learners, output),
         None => Err(Fault::Unknown),
     }
 }

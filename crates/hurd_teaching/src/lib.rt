@@ -22,8 +22,8 @@ pub use laws::{
 };
 pub use learners::Learners;
 pub use learning::learn_text;
-pub use naming::learners_of;
+pub use naming::{Naming, learners_of, tasks_of};
 pub use seeing::{look, reached, seen, view_of};
 pub use sights::see_text;
-pub use telling::{paragraph, said};
+pub use telling::{look_before, paragraph, said};
 pub use watch::Watch;

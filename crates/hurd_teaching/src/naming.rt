@@ -1,5 +1,5 @@
 //! Those whom a word names.
-ghost use Rattle.std.specs.Prelude.{◌≡◌, IfOk, Vec, drop};
+ghost use Rattle.std.specs.Prelude.{◌≡◌, IfOk, List, Option, Vec, drop, ℕ};
 ghost use Rattle.std.specs.Global.{Global};
 ghost use Rattle.std.specs.Option.{option_map};
 ghost use Rattle.hurd_creds.specs.declared.name.TaskId.{TaskId};
@@ -14,15 +14,29 @@ use hurd_dialogue::Telling;
 use hurd_words::users::parts;
 use std::alloc::{AllocError, Global};
 
+/// Who tells tasks by their names.
+pub trait Naming {
+    // The task of each name.
+    ghost tasks: { Self → List ℕ → Option ℕ };
+
+    /// The task of a name, if there is one.
+    fn task_of(&self, name: &str) -> Option<TaskId>
+        ensures { option_map (λ (t : TaskId). t.0) result ≡ tasks self.now name.now };
+}
+
+impl<T: Telling> Naming for T {
+    ghost tasks = { λ t. (T.way t).finds };
+
+    fn task_of(&self, name: &str) -> Option<TaskId> {
+        self.finds(name)
+    }
+}
+
 /// One task more, of a name; whether there is one. An error is want of memory.
-fn add_task<T: Telling>(
-    tasks: &mut Vec<TaskId>,
-    telling: &T,
-    name: &str,
-) -> Result<bool, AllocError>
-    ensures { IfOk result (λ found. Finds (T.way telling.now).finds name.now (numbers tasks.old.items) found (numbers tasks.new.items)) }
+fn add_task<N: Naming>(tasks: &mut Vec<TaskId>, naming: &N, name: &str) -> Result<bool, AllocError>
+    ensures { IfOk result (λ found. Finds (N.tasks naming.now) name.now (numbers tasks.old.items) found (numbers tasks.new.items)) }
 {
-    match telling.finds(name) {
+    match naming.task_of(name) {
         Some(task) => {
             tasks.push(task)?;
             Ok(true)
@@ -31,18 +45,18 @@ fn add_task<T: Telling>(
     }
 }
 
-/// The tasks of those whose names stand in a word between commas; none where one of them isn't in the text. An error is want of memory.
-fn tasks_of<T: Telling>(
+/// The tasks of those whose names stand in a word between commas; none where one of them isn't found. An error is want of memory.
+pub fn tasks_of<N: Naming>(
     alloc: Global,
-    telling: &T,
+    naming: &N,
     word: &str,
 ) -> Result<Option<Vec<TaskId>>, AllocError>
-    ensures { IfOk result (λ tasks. tasks_named (T.way telling.now).finds word.now ≡ option_map (λ (v : Vec TaskId Global). numbers v.items) tasks) }
+    ensures { IfOk result (λ tasks. tasks_named (N.tasks naming.now) word.now ≡ option_map (λ (v : Vec TaskId Global). numbers v.items) tasks) }
 {
     let names = parts(alloc, word)?;
     let mut tasks = Vec::new(alloc);
     for name in names.as_slice() {
-        if !add_task(&mut tasks, telling, name)? {
+        if !add_task(&mut tasks, naming, name)? {
             return Ok(None);
         }
     }

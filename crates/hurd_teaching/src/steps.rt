@@ -8,7 +8,7 @@ ghost use Rattle.hurd_teaching.specs.Shown.{StepsTo, StopsAt, ToldAll, ToldSome}
 ghost use Rattle.hurd_teaching.specs.Watched.{SeenOf, Sees};
 
 use crate::learners::Learners;
-use crate::telling::{counted, print_all, said_if_moved, shown};
+use crate::telling::{counted, look_before, print_all, said_if_moved, shown};
 use crate::watch::Watch;
 use hurd_dialogue::Telling;
 use hurd_lessons::Tally;
@@ -40,8 +40,8 @@ fn looked<T: Telling>(
     ensures sees { IfOk result (λ quiet. quiet ≡ false → Sees learners.now.tasks.items (T.way telling.old).world watch.new.seen) }
 {
     let quiet = is_quiet(telling, learners);
+    look_before(alloc, telling.world(), learners, watch, quiet)?;
     if !quiet {
-        watch.look(alloc, telling.world(), learners.tasks.as_slice())?;
         telling.note();
     }
     Ok(quiet)

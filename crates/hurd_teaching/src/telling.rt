@@ -6,7 +6,7 @@ ghost use Rattle.hurd_sentences.specs.Turns.{paragraph};
 ghost use Rattle.hurd_lessons.specs.Told.{counted};
 ghost use Rattle.hurd_terminal.specs.Faults.{AppendsFront, IsPrintFault};
 ghost use Rattle.hurd_teaching.specs.Telling.{SaysOf, Shows};
-ghost use Rattle.hurd_teaching.specs.Watched.{Sees};
+ghost use Rattle.hurd_teaching.specs.Watched.{SeenOf, Sees};
 
 use crate::learners::Learners;
 use crate::seeing::view_of;
@@ -19,6 +19,23 @@ use hurd_trans_iface::Server;
 use hurd_world::World;
 use std::alloc::{AllocError, Global};
 use std::io::Write;
+
+/// Looks at what these see before something is done, unless that was done, or nothing is to be said. An error is want of memory.
+pub fn look_before<S: Server>(
+    alloc: Global,
+    world: &World<S>,
+    learners: &Learners,
+    watch: &mut Watch,
+    quiet: bool,
+) -> Result<(), AllocError>
+    requires { SeenOf learners.now.tasks.items (world_of S.meaning world.now) watch.old.seen }
+    ensures { OnOk result (quiet ≡ false → Sees learners.now.tasks.items (world_of S.meaning world.now) watch.new.seen) }
+{
+    if !quiet {
+        watch.look(alloc, world, learners.tasks.as_slice())?;
+    }
+    Ok(())
+}
 
 /// What is said behind what was done: nothing where nothing is to be said, and then these are looked at anew; else what they learn by it. An error is
 /// want of memory.

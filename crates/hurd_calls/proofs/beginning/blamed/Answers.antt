@@ -1,7 +1,6 @@
-use Rattle.hurd_calls.proofs.ComplaintLaws.{bad_said}
 use Rattle.hurd_calls.proofs.beginning.blamed.Goals as goal
 
 pub returns-in-Bad : goal.returns-in-Bad
 returns-in-Bad c =
     let bad = rw c.in-Bad.is at c.requires in
-    rw (bad_said c.args.text.now c.in-Bad.line c.in-Bad.flaw bad) (rw c.text.ensures at c.complaint.ensures)
+    rw bad (rw c.text.ensures at c.complaint.ensures)

@@ -29,8 +29,8 @@ returns-in_err-learners-clause-adds g c =
 pub returns-in-Some-clause-adds : goal.returns-in-Some-clause-adds
 returns-in-Some-clause-adds g c =
     let named = rw (c.in-Some.is, c.deref.ensures) at c.in_ok-learners.ensures in
-    learned_adds g.T.Telling.sort c.args.text.now c.args.word.now (g.T.Telling.way c.in_ok-telling.telling.value) c.in_ok-telling.ensures.ok c.in-Some.learners named c.learn_anew.new.output _ _ c.learn_anew.result
-    (rw c.deref_mut.ensures.value at c.learn_anew.ensures.ok) (rw c.deref_mut.ensures.value at c.learn_anew.ensures.err)
+    learned_adds g.T.Telling.sort c.args.text.now c.args.word.now (g.T.Telling.way c.in_ok-telling.telling.value) c.in_ok-telling.ensures.ok c.in-Some.learners named c.learn.new.output _ _ c.learn.result
+    (rw c.deref_mut.ensures.value at c.learn.ensures.ok) (rw c.deref_mut.ensures.value at c.learn.ensures.err)
 
 pub returns-clause-adds : goal.returns-clause-adds
 returns-clause-adds g c =
@@ -38,7 +38,7 @@ returns-clause-adds g c =
     nobody_adds g.T.Telling.sort c.args.text.now c.args.word.now (g.T.Telling.way c.in_ok-telling.telling.value) c.in_ok-telling.ensures.ok (learning g.T.Telling.sort c.args.word.now) refl refl _ none
 
 pub returns-in-Some-clause-read : goal.returns-in-Some-clause-read
-returns-in-Some-clause-read g c = read_nowhere c.learn_anew.new.output _ c.learn_anew.result c.learn_anew.ensures.err
+returns-in-Some-clause-read g c = read_nowhere c.learn.new.output _ c.learn.result c.learn.ensures.err
 
 pub returns-in-Some-clause-write : goal.returns-in-Some-clause-write
-returns-in-Some-clause-write g c = write_blamed c.learn_anew.new.output _ c.learn_anew.result c.learn_anew.ensures.err
+returns-in-Some-clause-write g c = write_blamed c.learn.new.output _ c.learn.result c.learn.ensures.err

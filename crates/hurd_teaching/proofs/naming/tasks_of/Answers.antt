@@ -7,7 +7,7 @@ use Rattle.hurd_teaching.proofs.naming.tasks_of.Goals as goal
 
 pub loop-name-preserved : goal.loop-name-preserved
 loop-name-preserved g c =
-    let finds = (g.T.Telling.way c.args.telling.now).finds in
+    let finds = g.N.Naming.tasks c.args.naming.now in
     let items = c.as_slice-name-items.result.now in
     let front = numbers c.loop-name.tasks.items in
     let found = rw c.if-not-branch.false at c.in_ok-add_task.ensures in
@@ -15,7 +15,7 @@ loop-name-preserved g c =
 
 pub returns-then-not-branch : goal.returns-then-not-branch
 returns-then-not-branch g c =
-    let finds = (g.T.Telling.way c.args.telling.now).finds in
+    let finds = g.N.Naming.tasks c.args.naming.now in
     let items = c.as_slice-name-items.result.now in
     let front = numbers c.loop-name.tasks.items in
     let none = rw c.if-not-branch.true at c.in_ok-add_task.ensures in
@@ -24,7 +24,7 @@ returns-then-not-branch g c =
 
 pub returns : goal.returns
 returns g c =
-    let finds = (g.T.Telling.way c.args.telling.now).finds in
+    let finds = g.N.Naming.tasks c.args.naming.now in
     let items = c.as_slice-name-items.result.now in
     let front = numbers c.loop-name.tasks.items in
     sym c.loop-name.invariant ∙ (last_piece (λ ps. behind front (tasks_of finds ps)) items c.loop-name.name-index c.loop-name-test.false ∙ tasks_ended finds front)

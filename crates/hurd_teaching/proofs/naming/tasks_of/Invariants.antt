@@ -6,5 +6,5 @@ use Rattle.hurd_teaching.proofs.naming.tasks_of.Given as goal
 -- reading all names is reading those that are left, behind the tasks so far
 abbrev pub invariant-loop-name : goal.invariant-loop-name
 invariant-loop-name g l =
-    let finds = (g.T.Telling.way l.fn.telling).finds in
+    let finds = g.N.Naming.tasks l.fn.naming in
     behind (numbers l.tasks.items) (tasks_of finds (drop l.name-index (said l.name-items))) ≡ tasks_named finds l.fn.word

@@ -1,7 +1,4 @@
-use Rattle.hurd_teaching.proofs.StepLaws.{sees_here}
 use Rattle.hurd_teaching.proofs.steps.looked.Goals as goal
 
-pub returns-in_ok-look-clause-sees : goal.returns-in_ok-look-clause-sees
-returns-in_ok-look-clause-sees g c =
-    let sees = rw (c.as_slice.ensures.value, c.world.ensures) at c.in_ok-look.ensures.ok in
-    λ other. sees_here _ _ c.args.watch.now.seen c.look.new.self.seen c.requires sees
+pub returns-then-not-quiet-clause-sees : goal.returns-then-not-quiet-clause-sees
+returns-then-not-quiet-clause-sees g c = rw c.world.ensures at c.in_ok-look_before.ensures

@@ -1,7 +1,6 @@
-use Rattle.std.proofs.Common.{◌∙◌, [], inr, refl}
+use Rattle.std.proofs.Common.{[], inl, inr, refl}
 use Rattle.std.proofs.KnownBytes.{Appends-nil}
-use Rattle.std.proofs.lemmas.Result.{err_from_is_err_and}
-use Rattle.hurd_teaching.proofs.PrintLaws.{text_cut, text_printed}
+use Rattle.std.proofs.lemmas.Result.{IfErr-weaker, err_from_is_err_and, on_ok_weaker}
 use Rattle.hurd_teaching.proofs.telling.print_all.Goals as goal
 
 pub returns-in_err-text-clause-err : goal.returns-in_err-text-clause-err
@@ -10,7 +9,8 @@ returns-in_err-text-clause-err g c =
     rw (p.1, p.2) (inr refl, ([], (_, refl), Appends-nil _))
 
 pub returns-clause-ok : goal.returns-clause-ok
-returns-clause-ok g c = text_printed _ _ _ _ _ c.print.result (c.as_slice.ensures.value ∙ c.in_ok-text.ensures) c.print.ensures.ok
+returns-clause-ok g c = on_ok_weaker c.print.result (λ printed. printed.0) (rw (c.as_slice.ensures.value, c.in_ok-text.ensures) at c.print.ensures.ok)
 
 pub returns-clause-err : goal.returns-clause-err
-returns-clause-err g c = text_cut c.print.new.self _ _ _ _ c.print.result (c.as_slice.ensures.value ∙ c.in_ok-text.ensures) c.print.ensures.err
+returns-clause-err g c =
+    IfErr-weaker c.print.result _ _ (λ fault cut. (inl (cut.0, cut.1), cut.2)) (rw (c.as_slice.ensures.value, c.in_ok-text.ensures) at c.print.ensures.err)
