@@ -1,17 +1,16 @@
 -- When setting a translator answers, and leaves, what its plan says.
-use Rattle.std.proofs.Common.{◌≡◌, ◌∙◌, ◌⊎◌, ℕ, Bool, true, false, not, if◌then◌else◌, List, [], ◌∷◌, ◌++◌, Option, Some, None, inl, inr, refl, sym, ap, ap₂, subst}
-use Rattle.std.specs.Prelude.{Result, Ok, Err, IsOk, is_some, option_copied}
-use Rattle.hurd_machine.proofs.Common.{Bor, Change, ENOMEM, ENXIO, EOPNOTSUPP, EditHeader, Errno, Meaning, Meets, Name, Named, Planned, Reply, SET, Task, World, answered, apply_all, asks_trans, first, has_words, header_at, info_at, is_server_root, naming_of, node_at, passive_of, ports_of, sets_attrs_at, told, tree_by, with_passive, words_at}
+use Rattle.std.proofs.Common.{◌≡◌, ◌∙◌, ◌⊎◌, ℕ, Bool, true, false, not, List, ◌++◌, Option, Some, None, inl, inr, refl, sym, ap, ap₂, subst}
+use Rattle.std.specs.Prelude.{Result, Ok, Err, IsOk, is_some}
+use Rattle.hurd_machine.proofs.Common.{Change, ENOMEM, ENXIO, EOPNOTSUPP, Errno, Meaning, Meets, Name, Named, Planned, Reply, SET, Task, World, answered, apply_all, asks_trans, first, info_at, is_server_root, naming_of, ports_of, sets_attrs_at, tree_by, words_at}
 use Rattle.std.specs.Option.{option_map}
 use Rattle.hurd_nodes.proofs.PartLaws.{and_both}
-use Rattle.hurd_machine.specs.declared.call.Reply.TheVariants.{Done, Refused}
+use Rattle.hurd_machine.specs.declared.call.Reply.TheVariants.{Done}
 use Rattle.hurd_machine.specs.World.{nodes_of}
-use Rattle.hurd_machine.specs.Plan.{Follows}
 use Rattle.hurd_core.specs.Core.{Does, attaching, naming_asks}
 use Rattle.hurd_machine.proofs.Keeping.{apply_all-append}
 use Rattle.hurd_machine.proofs.Asks.{given_ok}
 use Rattle.hurd_core.proofs.CoreLaws.{naming-had}
-use Rattle.hurd_core.proofs.PlanLaws.{asked-refused, does-planned, follows-from, follows-refused, follows-then, planned-then}
+use Rattle.hurd_core.proofs.PlanLaws.{asked-refused, does-planned, planned-then}
 use Rattle.hurd_machine.specs.declared.call.Setting.{Setting}
 use Rattle.hurd_lookup.specs.Lacking.{PlannedOr}
 use Rattle.hurd_lookup.specs.Lent.{lent, server_ids}
@@ -19,15 +18,8 @@ use Rattle.hurd_lookup.proofs.LackingLaws.{weaker}
 use Rattle.hurd_fsys.specs.Aims.{FindsAims, aims_asks}
 use Rattle.hurd_fsys.specs.Setting as spec
 use Rattle.hurd_fsys.specs.Setting.{SetLacks, box_aims, emptying, leaver, plan_set_translator, seat_asks, seat_on, seating, sets_nothing, setter_asks, setting, setting_where, storing}
-use Rattle.hurd_fsys.proofs.StoringLaws.{some_has, storing_back, storing_names, storing_sets, tree_sets, words_told}
+use Rattle.hurd_fsys.proofs.StoringLaws.{storing_back, storing_names, storing_sets, tree_sets}
 use Rattle.hurd_fsys.proofs.SettingLaws.{setter}
-
--- the words of the passive half are stored, where it is set
-pub stores : (w : World) (n : Name) (f : Setting) (words : List (List ℕ)) (r : Reply) (y : World) → sets_attrs_at w n ≡ Ok tt → true ≡ asks_trans f.passive SET
-    → Follows w (answered (sets_attrs_at w n) (λ u. record { reply = Done; changes = EditHeader n (with_passive words) ∷ [] })) r y → y ≡ apply_all (storing f n words) w
-stores w n f words r y may set h =
-    (follows-from w (sets_attrs_at w n) (λ u. record { reply = Done; changes = EditHeader n (with_passive words) ∷ [] }) tt r y may h).1
-    ∙ ap (λ (b : Bool). apply_all (if b then EditHeader n (with_passive words) ∷ [] else []) w) set
 
 -- where a task can name two things, and a copy isn't made, memory was wanting
 pub uncopied : (w : World) (t : ℕ) (words : List (List ℕ)) (e : Errno) → naming_of (ports_of w) t 2 ≡ Ok tt → Meets (Ok words) (Err e) → (e ≡ ENOMEM) × IsOk (naming_asks w t 2)
@@ -74,37 +66,14 @@ module _ {S : Type 0} (mean : S → Meaning) (w : World) (t p : ℕ) (f : Settin
   as_planned : (r : Result (Unit {0}) Errno) (y : World) → Planned w (plan_set_translator w t p f words box) tells r y → IsPlanned r y
   as_planned r y h = weaker (SetLacks w t p f box) w (plan_set_translator w t p f words box) tells r y h
 
-  abbrev IsFollowed : Result (Unit {0}) Errno → World → Type 0
-  IsFollowed r y = Follows w (plan_set_translator w t p f words box) (told tells r) y
-
-  pub refused_freely : (e : Errno) → Err e ≡ setter_asks w t p f b → IsFollowed (Err e) w
-  refused_freely e is = follows-refused w (setter_asks w t p f (is_some box)) (setting w t f words box) e (asked_by (Err e) is)
-
-  pub set_refused : (e : Errno) → Err e ≡ setter_asks w t p f b → IsPlanned (Err e) w
-  set_refused e is = as_planned (Err e) w (asked-refused w (setter_asks w t p f (is_some box)) (setting w t f words box) tells e (asked_by (Err e) is))
-
   module _ (n : Named) (is : Ok n ≡ setter_asks w t p f b) where
     then_set : (r : Result (Unit {0}) Errno) (y : World) → Planned w (setting w t f words box n) tells r y → IsPlanned r y
     then_set r y h = as_planned r y (planned-then w (setter_asks w t p f (is_some box)) (setting w t f words box) tells n r y (asked_by (Ok n) is) h)
 
-    -- with neither half to be set
-    pub set_nothing : (u : Unit {0}) → true ≡ sets_nothing f → IsPlanned (Ok u) w
-    set_nothing u none = then_set (Ok u) w (subst (λ (b : Bool). Planned w (setting_where b w t f words box n) tells (Ok u) w) none (refl, refl))
-
-    -- else by what is active on the node, and whether words are stored
+    -- with a half to be set, by what is active on the node
     module _ (half : false ≡ sets_nothing f) where
       then_seat : (r : Result (Unit {0}) Errno) (y : World) → Planned w (answered (seat_asks w f n) (seating w t n f words box)) tells r y → IsPlanned r y
       then_seat r y h = then_set r y (subst (λ (b : Bool). Planned w (setting_where b w t f words box n) tells r y) half h)
-
-      module _ (e : Errno) (asked : Err e ≡ seat_asks w f n) where
-        pub set_kept : IsPlanned (Err e) w
-        set_kept = then_seat (Err e) w (asked-refused w (seat_asks w f n) (seating w t n f words box) tells e (sym asked))
-
-        pub kept_freely : IsFollowed (Err e) w
-        kept_freely =
-            follows-then w (setter_asks w t p f (is_some box)) (setting w t f words box) n (Refused e) w (asked_by (Ok n) is)
-            (subst (λ (b : Bool). Follows w (setting_where b w t f words box n) (Refused e) w) half
-            (follows-refused w (seat_asks w f n) (seating w t n f words box) e (sym asked)))
 
       module _ (old : Option Name) (at : Ok old ≡ seat_asks w f n) where
         then_old : (r : Result (Unit {0}) Errno) (y : World) → Planned w (seating w t n f words box old) tells r y → IsPlanned r y

@@ -1,7 +1,7 @@
 -- When starting a translator, or giving that up, answers, and leaves, what its plan says.
-use Rattle.std.proofs.Common.{◌≡◌, ◌∙◌, ℕ, List, true, false, true≢false, Option, Some, None, inl, inr, refl, sym, ap, subst}
-use Rattle.std.specs.Prelude.{Result, Ok, Err, IsOk, is_some, option_copied}
-use Rattle.hurd_machine.proofs.Common.{Bor, Change, ESRCH, Errno, Header, Meaning, Name, PendingStart, Plan, Reply, Task, World, answered, apply_all, first, is_no_memory, naming_of, on, or_refuse, pending, pending_of, ports_of, task_of}
+use Rattle.std.proofs.Common.{◌≡◌, ◌∙◌, ℕ, List, true, false, true≢false, Some, None, inl, inr, refl, sym, ap, subst}
+use Rattle.std.specs.Prelude.{Result, Ok, Err, IsOk}
+use Rattle.hurd_machine.proofs.Common.{Change, ESRCH, Errno, Header, Meaning, Name, PendingStart, Plan, Reply, Task, World, answered, apply_all, first, is_no_memory, naming_of, on, or_refuse, pending, pending_of, ports_of, task_of}
 use Rattle.hurd_machine.specs.declared.call.Reply.TheVariants.{Done, Refused}
 use Rattle.hurd_machine.specs.World.{nodes_of}
 use Rattle.hurd_machine.specs.Plan.{Follows}
@@ -13,16 +13,6 @@ use Rattle.hurd_lookup.specs.Lent.{server_ids}
 use Rattle.hurd_fsys.specs.Setting.{seat_on}
 use Rattle.hurd_fsys.specs.Starting.{StartFinds, StartLacks, Startup, pending_asks, plan_start_failed, plan_startup, start_aims, started, startup_asks, waiting_asks}
 use Rattle.hurd_fsys.proofs.StartingLaws.{Starter, starter, startable, startup_plain}
-
--- whether something is lent, and what
-
-pub lent_none : {A : Type 0} (o : Option (Bor A)) → is_some o ≡ false → None ≡ option_copied o
-lent_none None h = refl
-lent_none (Some b) h = absurd (true≢false h)
-
-pub lent_some : {A : Type 0} (o : Option (Bor A)) → is_some o ≡ true → (a : A) × (Some a ≡ option_copied o)
-lent_some None h = absurd (true≢false (sym h))
-lent_some (Some b) h = (b.now, refl)
 
 -- of a start that waits, targets that are found, and names that are left, to what is asked
 
@@ -51,9 +41,6 @@ module _ (w : World) (t : ℕ) where
   pub none_pending : None ≡ pending_of (ports_of w) t → pending_asks w t ≡ Err ESRCH
   unfolding on
   none_pending is = ap (λ o. on ESRCH o (λ (s : PendingStart). Ok s)) (sym is)
-
-  pub fails_none : None ≡ pending_of (ports_of w) t → Follows w (plan_start_failed w t) (Refused ESRCH) w
-  fails_none is = follows-refused w (pending_asks w t) (λ s. record { reply = Done; changes = pending t None }) ESRCH (none_pending is)
 
   pub starts_none : (m : Meaning) → None ≡ pending_of (ports_of w) t → Follows w (plan_startup w t m) (Refused ESRCH) w
   starts_none m is = follows-refused w (pending_asks w t) (λ s. started t s m (startup_asks w t m s)) ESRCH (none_pending is)

@@ -1,17 +1,15 @@
 -- The words of a passive translator stored with a node, or not: a piece of a call, the world that it leaves, and that the old words make it what it was.
 use Rattle.std.proofs.Common.{◌≡◌, ◌≢◌, ◌⊎◌, ◌∙◌, ℕ, Bool, true, false, if◌then◌else◌, List, [], ◌∷◌, Option, Some, None, refl, sym, ap, ap₂, subst, inl, inr}
-use Rattle.std.specs.Prelude.{Ok, Err, is_some}
+use Rattle.std.specs.Prelude.{Ok}
 use Rattle.std.specs.Option.{option_map}
-use Rattle.hurd_machine.proofs.Common.{AttrOf, Below, BodyOf, Change, EINVAL, EditHeader, EmptyOf, EndsOf, Errno, Header, Meaning, Name, NameMap, Named, Node, NodeMap, OptionsOf, TextOf, Owns, OwnsIt, Part, ServerInfo, Site, Sound, Task, TotalOf, UsersOf, World, active_in, apply_all, edit, edit_by, first, get, has_words, header_at, home_in, info_at, info_in, node_at, on, passive_of, port_asks, sets_attrs_at, shape_by, some_words, tree_by, with_header, with_passive, words_at, words_in}
+use Rattle.hurd_machine.proofs.Common.{AttrOf, Below, BodyOf, Change, EditHeader, EmptyOf, EndsOf, Header, Meaning, Name, NameMap, Node, NodeMap, OptionsOf, TextOf, Owns, OwnsIt, Part, ServerInfo, Site, Sound, Task, TotalOf, UsersOf, World, active_in, apply_all, edit, edit_by, get, header_at, home_in, info_at, info_in, sets_attrs_at, shape_by, tree_by, with_header, with_passive, words_at, words_in}
 use Rattle.hurd_creds.proofs.NameLaws.{same_map_by, same_or_apart, edit_here, edit_apart}
 use Rattle.hurd_machine.specs.World.{nodes_of}
 use Rattle.hurd_machine.specs.Touched.{Goes}
-use Rattle.hurd_machine.proofs.Asks.{is_named}
 use Rattle.hurd_machine.proofs.Nodes.{header_in, header-with_header, edit_keeps, edit_reads, node_of_header, was_edited}
 use Rattle.hurd_machine.proofs.Coherence.{be_same}
 use Rattle.hurd_machine.proofs.Confine.{Less}
 use Rattle.hurd_core.specs.Core.{naming_asks}
-use Rattle.hurd_fsys.specs.Setting.{stored_asks}
 use Rattle.hurd_fsys.proofs.AimsLaws.{Aims}
 use Rattle.hurd_machine.proofs.Filled.{tree_header}
 use Rattle.hurd_machine.proofs.Piece.{Whole, stands, whole_none, quiet, of_header}
@@ -124,31 +122,3 @@ tree_sets w n h at tree = go (info_at w n) (get w.nodes n) tree at
     go : (i : Option ServerInfo) (o : Option Node) → tree_by i ≡ true → header_in o ≡ Some h → edit_by i o ≡ Ok tt
     go (Some i) (Some x) t e = rw t refl
     go _ _ t e = absurd (cc)
-
--- whether a node that is there has words stored, as the core tells it
-pub words_told : (w : World) (n : Name) (h : Header) → header_at w n ≡ Some h → passive_of (node_at w n) ≡ some_words h.passive
-words_told w n h at = let x = node_of_header (get w.nodes n) h at in ap passive_of x.1 ∙ ap (λ (k : Header). some_words k.passive) x.2
-
-pub some_has : (words : List (List ℕ)) → is_some (some_words words) ≡ has_words words
-some_has [] = refl
-some_has (w ∷ ws) = refl
-
--- what file_get_translator asks
-
-module _ (w : World) (t p : ℕ) where
-  pub stored_refused : (e : Errno) → port_asks w t p ≡ Err e → stored_asks w t p ≡ Err e
-  unfolding first
-  stored_refused e is = rw is refl
-
-  module _ (n : Named) (is : port_asks w t p ≡ Ok n) where
-    asks_words : (o : Option (List (List ℕ))) → passive_of (node_at w n.right.node) ≡ o → stored_asks w t p ≡ on EINVAL o (λ words. Ok words)
-    unfolding first
-    asks_words o e = let told = words_told w n.right.node n.header (is_named w t p n is).is_header in rw (is, ← told, e) refl
-
-    pub stored_none : passive_of (node_at w n.right.node) ≡ None → stored_asks w t p ≡ Err EINVAL
-    unfolding on
-    stored_none e = asks_words None e
-
-    pub stored_some : (words : List (List ℕ)) → passive_of (node_at w n.right.node) ≡ Some words → stored_asks w t p ≡ Ok words
-    unfolding on
-    stored_some words e = asks_words (Some words) e

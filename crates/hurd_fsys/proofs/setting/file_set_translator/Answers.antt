@@ -2,7 +2,7 @@
 use Rattle.std.specs.Prelude.{Err, Ok}
 use Rattle.hurd_core.specs.Core.{world_of}
 use Rattle.hurd_core.specs.PortNode.{named_of}
-use Rattle.hurd_fsys.proofs.SeatingLaws.{kept_freely, may_store, refused_freely, set_aimless, set_emptied, set_kept, set_nothing, set_refused, set_seated}
+use Rattle.hurd_fsys.proofs.SeatingLaws.{may_store, set_aimless, set_emptied, set_seated}
 use Rattle.hurd_fsys.proofs.setting.file_set_translator.Goals as goal
 
 pub store-requires : goal.store-requires
