@@ -18,17 +18,14 @@ use Rattle.hurd_trans_iface.specs.Totals.{counts_for, total_in}
 use Rattle.hurd_tmpfs.specs.Totals.{AreSmall, IsTotal, WasTotal, counted_at}
 use Rattle.hurd_tmpfs.specs.Tree.{nodes_of}
 use Rattle.hurd_tmpfs.specs.declared.inodes.Inodes.{Inodes}
+use Rattle.hurd_tmpfs.proofs.AlikeLaws.{AlikeElse, insert-else}
 use Rattle.hurd_tmpfs.proofs.StoredLaws.{node-absent}
 
 -- what a node counts for
 abbrev count : Node → ℕ
 count x = counts_for x.header
 
--- in both maps each name but one counts for as much
-abbrev pub CountsElse : Name → NodeMap → NodeMap → Type 0
-CountsElse n m k = (q : Name) → q ≢ n → counted_at (fin.get k q) ≡ counted_at (fin.get m q)
-
--- the same for each name
+-- in both maps each name counts for as much
 abbrev pub Counts : NodeMap → NodeMap → Type 0
 Counts m k = (q : Name) → counted_at (fin.get k q) ≡ counted_at (fin.get m q)
 
@@ -42,74 +39,17 @@ sums : (m : NodeMap) → total count m ≡ total_in m
 unfolding total_in
 sums m = refl
 
--- maps
-
--- a change of what may be there, by which it counts for as much
-edited-counts : (f : Node → Node) → ((x : Node) → counts_for (f x).header ≡ counts_for x.header) → (o : Option Node) → counted_at (option_map f o) ≡ counted_at o
-edited-counts f keeps None = refl
-edited-counts f keeps (Some x) = keeps x
-
--- an edit by which a node counts for as much
-edit-counts : (n : Name) (f : Node → Node) (m : NodeMap) → ((x : Node) → counts_for (f x).header ≡ counts_for x.header) → Counts m (edit n f m)
-edit-counts n f m keeps q = elim (same_or_apart q n) [
-  | inl e ↦ rw e (ap counted_at (edit_here m n f) ∙ edited-counts f keeps (fin.get m n))
-  | inr apart ↦ ap counted_at (edit_apart m n f q apart)
-]
-
--- of what is in a node
-body-counts : (n : Name) (g : Body → Body) (m : NodeMap) → Counts m (edit n (with_body g) m)
-body-counts n g m = edit-counts n (with_body g) m (λ x. refl)
-
--- of what its header says
-header-counts : (n : Name) (f : Header → Header) (m : NodeMap) → ((h : Header) → counts_for (f h) ≡ counts_for h) → Counts m (edit n (with_header f) m)
-header-counts n f m keeps = edit-counts n (with_header f) m (λ x. keeps x.header)
-
--- any change at one name leaves the others
-edit-else : (n : Name) (f : Node → Node) (m : NodeMap) → CountsElse n m (edit n f m)
-edit-else n f m q apart = ap counted_at (edit_apart m n f q apart)
-
-pub insert-else : (n : Name) (x : Node) (m : NodeMap) → CountsElse n m (fin.insert m n x)
-insert-else n x m q apart = ap counted_at (get_apart m n x q apart)
-
-pub remove-else : (n : Name) (m : NodeMap) → CountsElse n m (fin.remove m n)
-remove-else n m q apart = ap counted_at (remove_apart m n q apart)
-
 -- a node put in the place of one that counted for as much
 pub insert-counts : (n : Name) (x y : Node) (m : NodeMap) → fin.get m n ≡ Some x → counts_for y.header ≡ counts_for x.header → Counts m (fin.insert m n y)
 insert-counts n x y m is same q = elim (same_or_apart q n) [
   | inl e ↦ rw e (ap counted_at (get_here m n y) ∙ same ∙ sym (ap counted_at is))
-  | inr apart ↦ insert-else n y m q apart
+  | inr apart ↦ (insert-else n y m q apart).counted
 ]
 
 -- an edit of the header leaves what a node counts for
 pub after-counts : (e : HeaderEdit) (h : Header) → counts_for (header_after e h) ≡ counts_for h
 after-counts (SetAttrs owner group mode) h = refl
 after-counts (SetPassive words) h = refl
-
--- what whole calls do
-
--- a node is put in, and an entry of it, if any
-pub add-else : (dir : Name) (entry : Option (List ℕ)) (n : Name) (x : Node) (m : NodeMap) → CountsElse n m (edit_all (added dir entry n (Some x)) m)
-add-else dir None n x m = insert-else n x m
-add-else dir (Some name) n x m = λ q apart. body-counts dir _ _ q ∙ insert-else n x m q apart
-
-pub link-else : (dir : Name) (name : List ℕ) (n : Name) (m : NodeMap) → CountsElse n m (edit_all (link_edits dir name n) m)
-link-else dir name n m q apart = edit-else n (with_header linked) _ q apart ∙ body-counts dir _ m q
-
-pub unlink-else : (dir : Name) (name : List ℕ) (n : Name) (m : NodeMap) → CountsElse n m (edit_all (unlink_edits dir name (Some n)) m)
-unlink-else dir name n m q apart = edit-else n (with_header unlinked) _ q apart ∙ body-counts dir _ m q
-
--- an entry goes to another name, which none had so far
-pub move-counts : (dir : Name) (name : List ℕ) (to : Name) (new : List ℕ) (n : Name) (o : Option Name) (m : NodeMap) → o ≡ None → Counts m (edit_all (move_edits dir name to new n o) m)
-move-counts dir name to new n (Some r) m is = absurd (cc)
-move-counts dir name to new n None m is = λ q. header-counts n (moved_to to) _ (λ h. refl) q ∙ body-counts to _ _ q ∙ body-counts dir _ m q
-
--- or that another node had
-pub move-else : (dir : Name) (name : List ℕ) (to : Name) (new : List ℕ) (n : Name) (o : Option Name) (p : Name) (m : NodeMap) → o ≡ Some p → CountsElse p m (edit_all (move_edits dir name to new n o) m)
-move-else dir name to new n None p m is = absurd (cc)
-move-else dir name to new n (Some r) p m is = λ q apart.
-    let e : r ≡ p = cc in
-    header-counts n (moved_to to) _ (λ h. refl) q ∙ body-counts to _ _ q ∙ edit-else r (with_header unlinked) _ q (λ f. apart (f ∙ e)) ∙ body-counts to _ _ q ∙ body-counts dir _ m q
 
 -- the total
 
@@ -120,18 +60,18 @@ total-kept m k l t same counts is =
     rw same (is.0 ∙ sym (sums m) ∙ sym all ∙ sums k, λ q. subst (λ (z : ℕ). z < 2 ^ 64) (sym (counts q)) (is.1 q))
 
 -- where one name may count for other than it did, it was the total
-pub total-before : (n : Name) (m k l : NodeMap) (t before : ℕ) → l ≡ k → CountsElse n m k → IsTotal m t → before ≡ counted_at (fin.get m n) → WasTotal l n before t
+pub total-before : (n : Name) (m k l : NodeMap) (t before : ℕ) → l ≡ k → AlikeElse n m k → IsTotal m t → before ≡ counted_at (fin.get m n) → WasTotal l n before t
 total-before n m k l t before same counts is counted = rw same was
   where
     was : WasTotal k n before t
     was =
-        let all = total_else count m k n (λ q apart. found_is (fin.get k q) ∙ counts q apart ∙ sym (found_is (fin.get m q))) in
+        let all = total_else count m k n (λ q apart. found_is (fin.get k q) ∙ (counts q apart).counted ∙ sym (found_is (fin.get m q))) in
         let a = found_is (fin.get m n) in
         let b = found_is (fin.get k n) in
         let c = sums m in
         let d = sums k in
         let e = is.0 in
-        (omega (arith, all, a, b, c, d, e, counted), λ q apart. subst (λ (z : ℕ). z < 2 ^ 64) (sym (counts q apart)) (is.1 q))
+        (omega (arith, all, a, b, c, d, e, counted), λ q apart. subst (λ (z : ℕ). z < 2 ^ 64) (sym (counts q apart).counted) (is.1 q))
 
 -- of no nodes
 pub total-nothing : (m : NodeMap) → m ≡ fin.empty → IsTotal m 0

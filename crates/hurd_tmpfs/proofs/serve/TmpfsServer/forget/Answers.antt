@@ -1,4 +1,5 @@
-use Rattle.hurd_tmpfs.proofs.NamelessLaws.{remove-else, list-after}
+use Rattle.hurd_tmpfs.proofs.AlikeLaws.{remove-else}
+use Rattle.hurd_tmpfs.proofs.NamelessLaws.{list-after}
 use Rattle.hurd_tmpfs.proofs.TotalLaws as totals
 use Rattle.hurd_tmpfs.proofs.serve.TmpfsServer.forget.Goals as goal
 
@@ -8,4 +9,4 @@ invariant_of-self-clause-listed c =
 
 pub recounted-self-requires : goal.recounted-self-requires
 recounted-self-requires c =
-    let n = c.args.node in totals.total-before n _ _ _ _ _ c.remove.ensures.is (totals.remove-else n _) c.args.self.now.summed c.counted-before.ensures
+    let n = c.args.node in totals.total-before n _ _ _ _ _ c.remove.ensures.is (remove-else n _) c.args.self.now.summed c.counted-before.ensures

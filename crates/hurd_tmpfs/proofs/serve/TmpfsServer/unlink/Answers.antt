@@ -1,4 +1,5 @@
-use Rattle.hurd_tmpfs.proofs.NamelessLaws.{unlink-else, list-after}
+use Rattle.hurd_tmpfs.proofs.AlikeLaws.{unlink-else}
+use Rattle.hurd_tmpfs.proofs.NamelessLaws.{list-after}
 use Rattle.hurd_tmpfs.proofs.TotalLaws as totals
 use Rattle.hurd_tmpfs.proofs.serve.TmpfsServer.unlink.Goals as goal
 
@@ -10,4 +11,4 @@ invariant_of-self-clause-listed c =
 
 pub recounted-self-requires : goal.recounted-self-requires
 recounted-self-requires c =
-    let n = c.in_ok-node.node in totals.total-before n _ _ _ _ _ c.unlink.ensures.is (totals.unlink-else c.args.dir c.args.name.now n _) c.args.self.now.summed c.counted-before.ensures
+    let n = c.in_ok-node.node in totals.total-before n _ _ _ _ _ c.unlink.ensures.is (unlink-else c.args.dir c.args.name.now n _) c.args.self.now.summed c.counted-before.ensures
