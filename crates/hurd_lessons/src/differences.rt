@@ -60,7 +60,7 @@ fn add_stat(alloc: Global, words: &mut Vec<u8>, old: &Attrs, new: &Attrs) -> Res
     add_number(words, b"size", u128::from(old.size), u128::from(new.size))
 }
 
-/// The same where it may be there.
+/// Adds what changed of attributes, where either view may have none.
 fn add_attrs(
     alloc: Global,
     words: &mut Vec<u8>,
@@ -325,7 +325,7 @@ fn add_cursor(
     add_modes(words, before.as_slice(), after.as_slice())
 }
 
-/// The same where it may be there.
+/// Adds what changed of an open, where either view may have none.
 fn add_opened(
     alloc: Global,
     words: &mut Vec<u8>,
@@ -434,7 +434,7 @@ fn add_server_row(
     add_uid(alloc, words, old, new)
 }
 
-/// The same where it may be there.
+/// Adds what changed of a server, where either view may have none.
 fn add_server_at(
     alloc: Global,
     words: &mut Vec<u8>,

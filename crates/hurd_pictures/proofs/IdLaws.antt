@@ -4,6 +4,7 @@ use Rattle.std.specs.Prelude.{◌↔◌, IsTrue}
 use Rattle.std.specs.Cmp.{nat_cmp_total}
 use Rattle.std.specs.FinMap.{nat_cmp-IsAntisymmetric}
 use Rattle.std.specs.FinSet as set
+use Rattle.std.proofs.lemmas.Bool.{and_parts}
 use Rattle.hurd_creds.specs.Access.{IdSet, IdSets}
 use Rattle.hurd_pictures.specs.Tasks.{same_ids}
 
@@ -12,11 +13,6 @@ same_test true true to from = refl
 same_test true false to from = sym (to refl)
 same_test false true to from = from refl
 same_test false false to from = refl
-
-and_parts : (a b : Bool) → (a && b) ≡ true → (a ≡ true) × (b ≡ true)
-and_parts true true e = (refl, refl)
-and_parts true false e = absurd (cc)
-and_parts false b e = absurd (cc)
 
 same_sets : (s t : IdSet) → (set.is_subset s t && set.is_subset t s) ≡ true → s ≡ t
 same_sets s t both = set.same_set nat_cmp_total nat_cmp-IsAntisymmetric s t (λ q.

@@ -1,17 +1,12 @@
 -- What stands in a label is plain.
-use Rattle.std.proofs.Common.{◌≡◌, ◌∙◌, ◌<◌, ◌/◌, ◌%◌, ◌==◌, ◌&&◌, ◌++◌, ℕ, Bool, true, false, List, [], ◌∷◌, if◌then◌else◌, refl, ap, arith}
+use Rattle.std.proofs.Common.{◌≡◌, ◌∙◌, ◌<◌, ◌≤◌, ◌+◌, ◌-◌, ◌/◌, ◌%◌, ◌==◌, ◌&&◌, ◌++◌, ℕ, Bool, true, false, List, [], ◌∷◌, if◌then◌else◌, refl, ap, arith}
 use Rattle.std.specs.Prelude.{nat_le, nat_lt}
-use Rattle.std.proofs.Common.{suc, zero}
-use Rattle.std.proofs.lemmas.Bool.{le-leb, leb-true}
+use Rattle.std.proofs.Common.{suc}
+use Rattle.std.proofs.lemmas.Bool.{and_parts, le-leb, leb-true, ltb-true, ne_eqb}
 use Rattle.std.specs.List.{list_all}
 use Rattle.hurd_words.specs.Escapes.{escaped_byte, hex_letter}
 use Rattle.hurd_pictures.specs.Labels.{label, label_byte}
 use Rattle.hurd_pictures.specs.Laws.{LabelsArePlain, is_plain}
-
-and_parts : (a b : Bool) → (a && b) ≡ true → (a ≡ true) × (b ≡ true)
-and_parts true true e = (refl, refl)
-and_parts true false e = absurd (cc)
-and_parts false b e = absurd (cc)
 
 both_plain : (xs ys : List ℕ) → list_all is_plain xs ≡ true → list_all is_plain ys ≡ true → list_all is_plain (xs ++ ys) ≡ true
 both_plain [] ys p q = q
@@ -23,32 +18,23 @@ if_plain : (t : Bool) (x y : List ℕ) → list_all is_plain x ≡ true → (t �
 if_plain true x y p q = p
 if_plain false x y p q = q refl
 
--- a hexadecimal digit is
-digit_plain : (v : ℕ) → v < 16 → is_plain (hex_letter v) ≡ true
-digit_plain zero h = refl
-digit_plain (suc zero) h = refl
-digit_plain (suc (suc zero)) h = refl
-digit_plain (suc (suc (suc zero))) h = refl
-digit_plain (suc (suc (suc (suc zero)))) h = refl
-digit_plain (suc (suc (suc (suc (suc zero))))) h = refl
-digit_plain (suc (suc (suc (suc (suc (suc zero)))))) h = refl
-digit_plain (suc (suc (suc (suc (suc (suc (suc zero))))))) h = refl
-digit_plain (suc (suc (suc (suc (suc (suc (suc (suc zero)))))))) h = refl
-digit_plain (suc (suc (suc (suc (suc (suc (suc (suc (suc zero))))))))) h = refl
-digit_plain (suc (suc (suc (suc (suc (suc (suc (suc (suc (suc zero)))))))))) h = refl
-digit_plain (suc (suc (suc (suc (suc (suc (suc (suc (suc (suc (suc zero))))))))))) h = refl
-digit_plain (suc (suc (suc (suc (suc (suc (suc (suc (suc (suc (suc (suc zero)))))))))))) h = refl
-digit_plain (suc (suc (suc (suc (suc (suc (suc (suc (suc (suc (suc (suc (suc zero))))))))))))) h = refl
-digit_plain (suc (suc (suc (suc (suc (suc (suc (suc (suc (suc (suc (suc (suc (suc zero)))))))))))))) h = refl
-digit_plain (suc (suc (suc (suc (suc (suc (suc (suc (suc (suc (suc (suc (suc (suc (suc zero))))))))))))))) h = refl
-digit_plain (suc (suc (suc (suc (suc (suc (suc (suc (suc (suc (suc (suc (suc (suc (suc (suc n)))))))))))))))) h = absurd (omega (arith, h))
-
--- and what can be printed, but for markup
+-- what can be printed is, but for markup
 print_plain : (b : ℕ) → (nat_le 33 b && nat_le b 126) ≡ true → b == 60 ≡ false → b == 62 ≡ false → b == 34 ≡ false → is_plain b ≡ true
 print_plain b inside n60 n62 n34 =
     let parts = and_parts (nat_le 33 b) (nat_le b 126) inside in
     let least = leb-true 33 b parts.0 in
     rw (n60, n62, n34, parts.1, le-leb 32 b (omega (arith, least))) refl
+
+-- so is a hexadecimal digit
+letter_plain : (b : ℕ) → 33 ≤ b → b ≤ 126 → (b ≡ 60 → ⊥) → (b ≡ 62 → ⊥) → (b ≡ 34 → ⊥) → is_plain b ≡ true
+letter_plain b least most n60 n62 n34 = print_plain b (rw (le-leb 33 b least, le-leb b 126 most) refl) (ne_eqb b 60 n60) (ne_eqb b 62 n62) (ne_eqb b 34 n34)
+
+digit_plain : (v : ℕ) → v < 16 → is_plain (hex_letter v) ≡ true
+digit_plain v h = go (nat_lt v 10) refl
+  where
+    go : (s : Bool) → nat_lt v 10 ≡ s → is_plain (if s then 48 + v else 97 + (v - 10)) ≡ true
+    go true is = let less = ltb-true v 10 is in letter_plain (48 + v) (omega arith) (omega (arith, less)) (λ e. omega (arith, e, less)) (λ e. omega (arith, e, less)) (λ e. omega (arith, e))
+    go false is = letter_plain (97 + (v - 10)) (omega arith) (omega (arith, h)) (λ e. omega (arith, e)) (λ e. omega (arith, e)) (λ e. omega (arith, e))
 
 one_plain : (b : ℕ) → is_plain b ≡ true → list_all is_plain (b ∷ []) ≡ true
 one_plain b p = rw p refl

@@ -26,13 +26,3 @@ sought_at v s es i n t is sought = go (slice_get es i) refl is
       where
         key : n ≡ e.0
         key = let it : Some n ≡ Some e.0 = is in cc
-
--- within there is a name
-pub named_within : (es : List (Name × Row)) (i : ℕ) → i < length es → None ≡ option_map (λ (e : Name × Row). e.0) (slice_get es i) → ⊥
-named_within es i below none = elim (slice_get_cases es i).1 [
-  | inl inside ↦ not_none (none ∙ ap (option_map (λ (e : Name × Row). e.0)) inside.2)
-  | inr past ↦ beyond i (length es) below past.0
-]
-  where
-    not_none : {X : Type 0} {x : X} → None ≡ Some x → ⊥
-    not_none e = cc

@@ -31,7 +31,7 @@ fn push_colours(text: &mut Vec<u8>, who: &[u8]) -> Result<(), AllocError>
     push_text(text, LEGEND_END)
 }
 
-/// The same, if any are marked.
+/// Adds the legend, if any are marked.
 fn push_legend(text: &mut Vec<u8>, who: &[u8], theirs: Option<&View>) -> Result<(), AllocError>
     ensures { OnOk result (text.new.items ≡ text.old.items ++ legend who.now (option_copied theirs.entry)) }
 {
@@ -58,7 +58,7 @@ fn push_row(
     push_active(text, view, name, row)
 }
 
-/// The same by a name.
+/// Adds what is drawn of a name, if it has a row.
 fn push_drawn(
     text: &mut Vec<u8>,
     titles: &Titles,
@@ -74,7 +74,7 @@ fn push_drawn(
     }
 }
 
-/// The same by a name that may be there.
+/// Adds what is drawn of a name that may be there.
 fn push_drawn_at(
     text: &mut Vec<u8>,
     titles: &Titles,

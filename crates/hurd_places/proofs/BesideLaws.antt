@@ -1,11 +1,8 @@
 -- What stands beside a path is told from it: it begins with a space and a bracket.
-use Rattle.std.proofs.Common.{◌≡◌, ◌⊎◌, inl, inr, ◌∙◌, refl, sym, ap, subst, ℕ, ◌==◌, ◌&&◌, ◌||◌, not, Bool, true, false, true≢false, List, [], ◌∷◌, ◌++◌, append_assoc, Option, Some, None, if◌then◌else◌, codes, nat_lt}
+use Rattle.std.proofs.Common.{◌≡◌, ◌⊎◌, inl, inr, ◌∙◌, refl, sym, ap, subst, ℕ, ◌==◌, ◌&&◌, ◌||◌, not, Bool, true, false, true≢false, List, [], ◌∷◌, ◌++◌, append_assoc, Option, Some, None, if◌then◌else◌, codes}
 use Rattle.std.proofs.lemmas.Bool.{and_from, and_parts, cases_Bool, eqb-true}
 use Rattle.hurd_creds.specs.declared.name.Name.{Name}
-use Rattle.hurd_creds.specs.declared.name.TaskId.{TaskId}
-use Rattle.hurd_words.specs.Printing.{spaced, text_if}
-use Rattle.hurd_ports.specs.Tables.{Task}
-use Rattle.hurd_ports.specs.declared.table.Port.{Port}
+use Rattle.hurd_words.specs.Printing.{spaced}
 use Rattle.hurd_sentences.specs.Sentences.{is_letter, is_word}
 use Rattle.hurd_sentences.specs.Spelling.{spelled_name}
 use Rattle.hurd_sentences.proofs.Bytes.{all_first, all_rest, first_same}
@@ -15,8 +12,7 @@ use Rattle.hurd_sight.specs.declared.found.Why.{Why}
 use Rattle.hurd_sight.specs.declared.found.Why.TheVariants as why
 use Rattle.hurd_views.specs.Views.{row_at}
 use Rattle.hurd_views.specs.declared.view.View.{View}
-use Rattle.hurd_places.specs.Places.{beneath, beside, beside_port, beside_ports, beside_task, beside_tasks, count_to, is_covered, is_held, is_wanted, label_in, label_of, label_or, label_text, level_along, covered_path, name_in, names_tasks, node_path, node_place, numbered, or_root, path_along, step_by, target_at, way_of}
-use Rattle.hurd_places.specs.declared.labels.Holder.TheVariants as holder
+use Rattle.hurd_places.specs.Places.{beneath, beside, count_to, is_covered, label_of, label_or, level_along, covered_path, name_in, names_tasks, node_path, node_place, numbered, or_root, path_along, step_by, target_at, way_of}
 use Rattle.hurd_places.specs.declared.labels.Wanted.TheVariants as wanted
 use Rattle.hurd_places.proofs.CutLaws.{is_cut, is_inner, is_whole}
 use Rattle.hurd_places.proofs.EachBeside.{each_beside}

@@ -1,10 +1,7 @@
 -- Where something is may stand in a part of a sentence.
 use Rattle.std.proofs.Common.{◌≡◌, refl, ℕ, ◌==◌, Bool, true, false, List, [], ◌∷◌, ◌++◌, Option, Some, None, codes, decimal, is_some, if◌then◌else◌}
 use Rattle.hurd_creds.specs.declared.name.Name.{Name}
-use Rattle.hurd_creds.specs.declared.name.TaskId.{TaskId}
 use Rattle.hurd_words.specs.Printing.{spaced, text_if}
-use Rattle.hurd_ports.specs.Tables.{Task}
-use Rattle.hurd_ports.specs.declared.table.Port.{Port}
 use Rattle.hurd_sentences.specs.Spelling.{spelled_name}
 use Rattle.hurd_sentences.proofs.ClauseLaws.{both_fit, fits, word_fits}
 use Rattle.hurd_sentences.proofs.WordLaws.{decimal_is_word, spelled_is_word}
@@ -14,7 +11,7 @@ use Rattle.hurd_sight.specs.declared.found.Why.TheVariants as why
 use Rattle.hurd_views.specs.Views.{row_at}
 use Rattle.hurd_views.specs.declared.rows.Row.{Row}
 use Rattle.hurd_views.specs.declared.view.View.{View}
-use Rattle.hurd_places.specs.Places.{beneath, beside, beside_port, beside_ports, beside_task, beside_tasks, count_to, holder_word, is_covered, is_held, label_in, label_of, label_or, label_text, level_along, covered_path, name_in, name_text, names_tasks, node_path, node_place, numbered, open_place, or_root, path_along, place_by, server_at, server_node, server_path, step_by, target_at, way_of}
+use Rattle.hurd_places.specs.Places.{beneath, beside, count_to, holder_word, is_covered, label_of, label_or, label_text, level_along, covered_path, name_in, name_text, names_tasks, node_path, node_place, numbered, open_place, or_root, path_along, place_by, server_at, server_node, server_path, step_by, target_at, way_of}
 use Rattle.hurd_places.specs.declared.labels.Holder.{Holder}
 use Rattle.hurd_places.specs.declared.labels.Holder.TheVariants as holder
 use Rattle.hurd_places.specs.declared.labels.Label.{Label}

@@ -1,5 +1,5 @@
 -- The place of a node, of an open and of a server are told apart.
-use Rattle.std.proofs.Common.{◌≡◌, ◌∙◌, refl, sym, ap, ℕ, ◌==◌, ◌&&◌, not, Bool, true, false, true≢false, List, [], ◌∷◌, ◌++◌, codes}
+use Rattle.std.proofs.Common.{◌≡◌, ◌∙◌, refl, sym, ap, ℕ, ◌==◌, not, Bool, true, false, true≢false, List, [], ◌∷◌, ◌++◌, codes}
 use Rattle.std.proofs.lemmas.List.{append_cancel_left}
 use Rattle.hurd_creds.specs.declared.name.Name.{Name}
 use Rattle.hurd_words.specs.Printing.{spaced}

@@ -1,5 +1,5 @@
 -- The way by which a node was found.
-use Rattle.std.proofs.Common.{◌≡◌, ◌∙◌, refl, sym, ap, ℕ, zero, suc, ◌+◌, ◌<◌, ◌≤◌, Bool, true, false, List, [], ◌∷◌, ◌++◌, Option, Some, None, if◌then◌else◌, drop, get_or, length, arith}
+use Rattle.std.proofs.Common.{◌≡◌, ◌∙◌, refl, sym, ap, ℕ, zero, suc, ◌+◌, ◌<◌, ◌≤◌, Bool, false, List, [], ◌∷◌, ◌++◌, Option, Some, None, if◌then◌else◌, drop, get_or, length, arith}
 use Rattle.std.specs.Prelude.{option_and_then, slice_get}
 use Rattle.std.specs.Option.{option_or}
 use Rattle.std.proofs.lemmas.List.{append_assoc, append-nil, drop_all, drop_more}
@@ -12,10 +12,9 @@ use Rattle.hurd_sight.specs.Found.{found_from, why_of}
 use Rattle.hurd_sight.specs.declared.found.Why.{Why}
 use Rattle.hurd_sight.specs.declared.found.Why.TheVariants as why
 use Rattle.hurd_views.specs.declared.view.View.{View}
-use Rattle.hurd_places.specs.Places.{beside_task, beside_tasks, bound_to, count_to, first_bound, is_alike, is_server, label_of_task, label_of_tasks, level_along, level_by, path_along, step_by, way_to}
+use Rattle.hurd_places.specs.Places.{beside_task, beside_tasks, count_to, is_alike, label_of_task, label_of_tasks, level_along, level_by, path_along, step_by, way_to}
 use Rattle.hurd_places.specs.declared.labels.Label.{Label}
 use Rattle.hurd_places.specs.declared.labels.Wanted.{Wanted}
-use Rattle.hurd_places.specs.declared.servers.Bond.{Bond}
 
 no_way : (k : ℕ) (es : List (Name × Why)) → way_to k es None ≡ []
 no_way zero es = refl
@@ -43,29 +42,13 @@ way_goes (suc k) len i es n way more all below is so grown =
 pub here : {X : Type 0} (xs : List X) (i : ℕ) (x : X) → slice_get xs i ≡ Some x → drop i xs ≡ x ∷ drop (i + 1) xs
 here xs i x is = drop_more xs i x (slice_get_within xs i x is) ∙ ap (λ (y : _). y ∷ drop (i + 1) xs) (get_or_from_slice_get xs i x x is)
 
--- the first node that is bound to a server stands here, or further on
-
-pub first_here : (v : View) (b : Bond) (s : Name) (es : List (Name × Why)) (i : ℕ) (e : Name × Why) → slice_get es i ≡ Some e → is_server s (bound_to v b e.0) ≡ true
-    → first_bound v b s (drop i es) ≡ Some e.0
-first_here v b s es i e at is = ap (first_bound v b s) (here es i e at) ∙ ap (λ (t : Bool). if t then Some e.0 else first_bound v b s (drop (i + 1) es)) is
-
-pub first_further : (v : View) (b : Bond) (s : Name) (es : List (Name × Why)) (i : ℕ) (e : Name × Why) → slice_get es i ≡ Some e → is_server s (bound_to v b e.0) ≡ false
-    → first_bound v b s (drop i es) ≡ first_bound v b s (drop (i + 1) es)
-first_further v b s es i e at is = ap (first_bound v b s) (here es i e at) ∙ ap (λ (t : Bool). if t then Some e.0 else first_bound v b s (drop (i + 1) es)) is
-
--- a count goes on, and ends at its node
-
-counts_on : (y : Why) (n : Name) (es : List (Name × Why)) (i : ℕ) (e : Name × Why) (t : Bool) → slice_get es i ≡ Some e → same_name n e.0 ≡ t
-    → count_to y n (drop i es) ≡ (if is_alike y e.1 then 1 else 0) + (if t then 0 else count_to y n (drop (i + 1) es))
-counts_on y n es i e t at is = ap (count_to y n) (here es i e at) ∙ ap (λ (t : Bool). (if is_alike y e.1 then 1 else 0) + (if t then 0 else count_to y n (drop (i + 1) es))) is
+-- a count goes on
 
 pub count_goes : (y : Why) (n : Name) (es : List (Name × Why)) (i : ℕ) (e : Name × Why) (count more all : ℕ) → slice_get es i ≡ Some e → same_name n e.0 ≡ false
     → more ≡ (if is_alike y e.1 then 1 else 0) → count + count_to y n (drop i es) ≡ all → count + more + count_to y n (drop (i + 1) es) ≡ all
-count_goes y n es i e count more all at is adds so_far = let step = counts_on y n es i e false at is in omega (arith, step, adds, so_far)
-
-pub count_ends : (y : Why) (n : Name) (es : List (Name × Why)) (i : ℕ) (e : Name × Why) (count more all : ℕ) → slice_get es i ≡ Some e → same_name n e.0 ≡ true
-    → more ≡ (if is_alike y e.1 then 1 else 0) → count + count_to y n (drop i es) ≡ all → count + more ≡ all
-count_ends y n es i e count more all at is adds so_far = let step = counts_on y n es i e true at is in omega (arith, step, adds, so_far)
+count_goes y n es i e count more all at is adds so_far =
+    let step = ap (count_to y n) (here es i e at) ∙ ap (λ (t : Bool). (if is_alike y e.1 then 1 else 0) + (if t then 0 else count_to y n (drop (i + 1) es))) is in
+    omega (arith, step, adds, so_far)
 
 -- a path goes on along a way
 

@@ -127,6 +127,7 @@ fn one_if(holds: bool) -> u64
 }
 
 /// How many of the found nodes, up to this one, were found in such a way.
+#[tactic(auto, using(crate::proofs::PlaceLaws::here))]
 fn count_to(why: Why, node: NodeName, found: &Found) -> u64
     ensures { result ≡ count_to why node found.now }
 {

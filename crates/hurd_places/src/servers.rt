@@ -115,6 +115,7 @@ fn is_server(server: ServerName, other: Option<ServerName>) -> bool
 }
 
 /// The first found node that is bound to a server.
+#[tactic(auto, using(crate::proofs::PlaceLaws::here))]
 fn first_bound(view: &View, bond: Bond, server: ServerName, found: &Found) -> Option<NodeName>
     ensures { result ≡ first_bound view.now bond server found.now }
 {
