@@ -9,7 +9,7 @@ use Rattle.hurd_lookup.specs.declared.resolve.Looked.TheVariants.{Ends, Goes}
 use Rattle.hurd_lookup.specs.Path.{names_in, is_short}
 use Rattle.hurd_lookup.specs.Lookup.{Place, walk}
 use Rattle.hurd_lookup.specs.Legs.{Leads}
-use Rattle.hurd_lookup.specs.Resolve.{Leg, from_top, landed, leg_asks, leg_by, leg_request, legs, most_looks, path_end}
+use Rattle.hurd_lookup.specs.Resolve.{Leg, landed, leg_asks, leg_by, leg_request, legs}
 
 module _ (w : World) (ids : IdSets) (l : Leg) (h : Header) (there : header_at w l.node ≡ Some h) (short : true ≡ is_short l.path) (r : Request) (plain : r ≡ leg_request l.path) where
   abbrev walked : Request → Result Place Errno
@@ -40,17 +40,6 @@ module _ (w : World) (ids : IdSets) (l : Leg) (h : Header) (there : header_at w 
       go (Ok (Ends n)) ends = (λ onward. same onward ∙ ends.0 onward, ends.1)
       go (Ok (Goes m)) goes = λ onward. same onward ∙ goes onward
       go (Err e) refused = elim refused [ inl asked ↦ inl (λ onward. same onward ∙ asked onward) | inr lacks ↦ inr lacks ]
-
--- a path from the root of the tree, by its looks
-
-module _ (w : World) (ids : IdSets) (path : List ℕ) where
-  pub path_end_from : (l : Leg) → from_top path ≡ Ok l → legs most_looks w ids l ≡ path_end w ids path
-  unfolding first path_end
-  path_end_from l is = sym (ap (λ (r : Result Leg Errno). first r (legs most_looks w ids)) is)
-
-  pub path_end_refused : (e : Errno) → from_top path ≡ Err e → path_end w ids path ≡ Err e
-  unfolding first path_end
-  path_end_refused e is = ap (λ (r : Result Leg Errno). first r (legs most_looks w ids)) is
 
 -- where a look is left, one is made
 pub legs_one : (k : ℕ) (w : World) (ids : IdSets) (l : Leg) → 0 < k → legs k w ids l ≡ leg_asks w ids l (legs (k - 1) w ids)

@@ -1,7 +1,8 @@
 -- Whether a task has room for what a lookup makes.
 use Rattle.std.proofs.Common.{◌≡◌, ◌∙◌, ℕ, [], Option, inl, inr, refl, sym, ap, subst}
 use Rattle.std.specs.Prelude.{Result, Ok, Err, Some, None}
-use Rattle.hurd_machine.proofs.Common.{ENOMEM, ESRCH, Errno, IdSets, Meets, NodeState, PortState, Task, ids_at, ids_of, nat_cmp, on, room_of, world_from}
+use Rattle.hurd_machine.proofs.Common.{ENOMEM, ESRCH, Errno, IdSets, Meets, Task, World, ids_at, ids_of, nat_cmp, on, ports_of, room_of}
+use Rattle.hurd_machine.specs.World.{nodes_of}
 use Rattle.std.specs.FinSet as set
 use Rattle.hurd_core.specs.Core.{asked_only, room_asks}
 use Rattle.hurd_core.proofs.CoreLaws.{IsRefused, HasRoom, room}
@@ -15,23 +16,11 @@ pub ids_short : (e : Errno) → Meets (ids_of [] []) (Err e) → e ≡ ENOMEM
 ids_short e short = elim (subst (λ (r : Result IdSets Errno). Meets r (Err e)) ids_none short) [ inl bars ↦ absurd (cc) | inr lacks ↦ lacks.0 ]
 
 -- what the tables say of it is what the plan asks
-pub room_asked : (N : NodeState) (H : PortState) (t names : ℕ) → room_of H t names ≡ asked_only (room_asks (world_from N H) t names)
-room_asked N H t names = elim (room N H t names) [
+pub room_asked : (w : World) (t names : ℕ) → room_of (ports_of w) t names ≡ asked_only (room_asks w t names)
+room_asked w t names = elim (room (nodes_of w) (ports_of w) t names) [
   | IsRefused e bars asks ↦ bars ∙ sym (ap asked_only asks)
   | HasRoom x at free frees asks ↦ frees ∙ sym (ap asked_only asks)
 ]
-
--- a task that is there, or isn't
-
-pub ids_missing : (o : Option Task) (e : Errno) → Err e ≡ ids_at o → Err e ≡ asked_only (on ESRCH o (λ x. Ok x))
-unfolding on
-ids_missing None e is = let same : e ≡ ESRCH = cc in rw same refl
-ids_missing (Some x) e is = absurd (cc)
-
-pub ids_there : (o : Option Task) (i : IdSets) → Ok i ≡ ids_at o → Ok tt ≡ asked_only (on ESRCH o (λ x. Ok x))
-unfolding on
-ids_there None i is = absurd (cc)
-ids_there (Some x) i is = refl
 
 -- its ids, and what follows from them
 

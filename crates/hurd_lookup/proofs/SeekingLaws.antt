@@ -5,14 +5,11 @@ use Rattle.hurd_machine.proofs.Common.{Errno, IdSets, Name, PendingStart, World,
 use Rattle.hurd_lookup.specs.Lookup.{Outcome, Starts}
 use Rattle.hurd_lookup.specs.Nested.{first_unstarted}
 use Rattle.hurd_lookup.specs.Seeking.{sooner, start_at}
-use Rattle.hurd_lookup.proofs.RoomLaws.{ids_had, ids_not}
+use Rattle.hurd_lookup.proofs.RoomLaws.{ids_had}
 
 module _ (w : World) (t : ℕ) (s : PendingStart) where
   abbrev starts : IdSets → Result Outcome Errno
   starts ids = first (first_unstarted w ids s.node) (λ n. Ok (Starts (start_at w n)))
-
-  pub sooner_none : (e : Errno) → Err e ≡ ids_at (task_at w t) → sooner w t (Starts s) ≡ Err e
-  sooner_none e is = ids_not starts (task_at w t) e is
 
   module _ (ids : IdSets) (had : Ok ids ≡ ids_at (task_at w t)) where
     pub sooner_not : (e : Errno) → first_unstarted w ids s.node ≡ Err e → sooner w t (Starts s) ≡ Err e

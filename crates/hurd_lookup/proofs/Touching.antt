@@ -2,7 +2,7 @@
 use Rattle.std.proofs.Common.{◌≡◌, ℕ, true, List, [], Some, sym, ap, subst}
 use Rattle.std.specs.Prelude.{Result, Ok}
 use Rattle.hurd_creds.specs.declared.attrs.Kind.TheVariants.{File}
-use Rattle.hurd_machine.proofs.Common.{Errno, Header, IdSets, IoRight, Mode, OpenFlags, Task, World, Write, bare, header_at, home_at, is_dir, least_uid, may, ports_of, server_at, task_at}
+use Rattle.hurd_machine.proofs.Common.{Errno, Header, IdSets, IoRight, Mode, OpenFlags, PendingStart, Task, World, Write, bare, header_at, home_at, is_dir, least_uid, may, ports_of, server_at, task_at}
 use Rattle.hurd_machine.specs.World.{makes_at}
 use Rattle.hurd_machine.proofs.Asks.{first_ok, given_ok, on_ok}
 use Rattle.hurd_ports.specs.Tables.{io_right_of}
@@ -20,7 +20,7 @@ abbrev pub MakesBy : World → IdSets → Outcome → Type 0
 MakesBy w own (Makes s f ids ways) = (h : Header) × (header_at w f.dir ≡ Some h) × (may own (bare h) Write ≡ true)
 MakesBy w own o = Unit {0}
 
-ok_is : {A : Type 0} {a b : A} → ◌≡◌ {A = Result A Errno} (Ok a) (Ok b) → a ≡ b
+pub ok_is : {A : Type 0} {a b : A} → ◌≡◌ {A = Result A Errno} (Ok a) (Ok b) → a ≡ b
 ok_is e = cc (e)
 
 makes_by : (w : World) (q : Authority) (r : Request) (place : Place) (o : Outcome) → end_asks w q r place ≡ Ok o → MakesBy w q.ids o
@@ -44,19 +44,19 @@ makes_by w q r (Waits n words) o is = subst (MakesBy w q.ids) (ok_is is) tt
 
 -- dir_lookup
 
+-- what is so of each start stays so
+pub sooner_keeps : (P : Outcome → Type 0) → ((s : PendingStart) → P (Starts s)) → (w : World) (t : ℕ) (o p : Outcome) → sooner w t o ≡ Ok p → P o → P p
+sooner_keeps P start w t (Starts s) p is has =
+    let x = on_ok _ (task_at w t) _ p is in
+    let n = first_ok (first_unstarted w x.0.ids s.node) _ p x.2 in
+    subst P (ok_is n.2) (start _)
+sooner_keeps P start w t (Opens e) p is has = subst P (ok_is is) has
+sooner_keeps P start w t (Makes s f ids ways) p is has = subst P (ok_is is) has
+sooner_keeps P start w t (Retries kind name at) p is has = subst P (ok_is is) has
+
 module _ (t p : ℕ) (path : List ℕ) (flags : OpenFlags) (mode : Mode) where
   abbrev r : Request
   r = request path flags mode
-
-  -- a start makes nothing, and what is no start stays
-  sooner_makes : (w : World) (own : IdSets) (o p : Outcome) → sooner w t o ≡ Ok p → MakesBy w own o → MakesBy w own p
-  sooner_makes w own (Starts s) p is by =
-      let x = on_ok _ (task_at w t) _ p is in
-      let n = first_ok (first_unstarted w x.0.ids s.node) _ p x.2 in
-      subst (MakesBy w own) (ok_is n.2) tt
-  sooner_makes w own (Opens e) p is by = subst (MakesBy w own) (ok_is is) by
-  sooner_makes w own (Makes s f ids ways) p is by = subst (MakesBy w own) (ok_is is) by
-  sooner_makes w own (Retries kind name at) p is by = subst (MakesBy w own) (ok_is is) by
 
   pub lookup_by : (w : World) (o : Outcome) → seeking_asks w t p path flags mode ≡ Ok o → (q : IoRight) × (io_right_of (ports_of w) t p ≡ Ok q) × MakesBy w q.ids o
   lookup_by w o is =
@@ -65,7 +65,7 @@ module _ (t p : ℕ) (path : List ℕ) (flags : OpenFlags) (mode : Mode) where
       let h = on_ok _ (header_at w q.0.node) _ f.0 q.2 in
       let g = given_ok _ (is_short path) _ f.0 h.2 in
       let place = first_ok (walk w (by_right q.0) r q.0.node (names_in path)) _ f.0 g.1 in
-      (q.0, q.1, sooner_makes w q.0.ids f.0 o f.2 (makes_by w (by_right q.0) r place.0 f.0 place.2))
+      (q.0, q.1, sooner_keeps (MakesBy w q.0.ids) (λ s. tt) w t f.0 o f.2 (makes_by w (by_right q.0) r place.0 f.0 place.2))
 
 -- fsys_getroot
 

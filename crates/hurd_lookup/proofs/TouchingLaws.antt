@@ -1,14 +1,11 @@
 -- A lookup touches what is found along its path.
 use Rattle.std.proofs.Common.{◌≡◌, ◌∙◌, ℕ, List, refl, sym, subst}
 use Rattle.std.specs.Prelude.{Result, Ok, Err}
-use Rattle.hurd_machine.proofs.Common.{Errno, Mode, OpenFlags, Part, Task, World, asked_parts, task_at}
-use Rattle.hurd_machine.proofs.Asks.{first_ok, on_ok}
-use Rattle.hurd_lookup.specs.Lookup.{Makes, Opens, Outcome, Retries, Starts, ending_asks, finding_parts, found_asks, lookup_parts, request, whole_asks}
-use Rattle.hurd_lookup.specs.Nested.{first_unstarted}
+use Rattle.hurd_machine.proofs.Common.{Errno, Mode, OpenFlags, Part, Task, World, asked_parts}
+use Rattle.hurd_machine.proofs.Asks.{first_ok}
+use Rattle.hurd_lookup.specs.Lookup.{Outcome, ending_asks, finding_parts, found_asks, lookup_parts, request, whole_asks}
 use Rattle.hurd_lookup.specs.Seeking.{seeking_asks, sooner, touches_lookup}
-
-found_is : {A : Type 0} {a b : A} → ◌≡◌ {A = Result A Errno} (Ok a) (Ok b) → a ≡ b
-found_is e = cc (e)
+use Rattle.hurd_lookup.proofs.Touching.{ok_is, sooner_keeps}
 
 parts_of : {A : Type 0} (x : Result A Errno) (k : A → Part → Type 0) (p : Part) → asked_parts x k p → (a : A) × (x ≡ Ok a) × k a p
 unfolding asked_parts
@@ -21,18 +18,8 @@ found_parts w t found p on =
     let l = parts_of (whole_asks w t found) (λ l. lookup_parts w l.0) p on in
     let o = first_ok found _ l.0 l.1 in
     let x = first_ok (ending_asks w t o.0) _ l.0 o.2 in
-    let same : (o.0, x.0) ≡ l.0 = found_is x.2 in
+    let same : (o.0, x.0) ≡ l.0 = ok_is x.2 in
     (o.0, o.1, subst (λ (z : Outcome × Task). lookup_parts w z.0 p) (sym same) l.2)
-
--- a start touches nothing, and what is no start stays
-sooner_parts : (w : World) (t : ℕ) (o q : Outcome) → sooner w t o ≡ Ok q → (p : Part) → lookup_parts w q p → lookup_parts w o p
-sooner_parts w t (Starts s) q is p on =
-    let x = on_ok _ (task_at w t) _ q is in
-    let n = first_ok (first_unstarted w x.0.ids s.node) _ q x.2 in
-    subst (λ z. lookup_parts w z p) (sym (found_is n.2)) on
-sooner_parts w t (Opens e) q is p on = subst (λ z. lookup_parts w z p) (sym (found_is is)) on
-sooner_parts w t (Makes s f ids ways) q is p on = subst (λ z. lookup_parts w z p) (sym (found_is is)) on
-sooner_parts w t (Retries kind name at) q is p on = subst (λ z. lookup_parts w z p) (sym (found_is is)) on
 
 module _ (w : World) (t d : ℕ) (path : List ℕ) (flags : OpenFlags) (mode : Mode) where
   -- a lookup touches no more than what is found
@@ -40,8 +27,8 @@ module _ (w : World) (t d : ℕ) (path : List ℕ) (flags : OpenFlags) (mode : M
   touched_found o is p on =
       let q = found_parts w t (seeking_asks w t d path flags mode) p on in
       let f = first_ok (found_asks w t d path (request path flags mode)) (sooner w t) q.0 q.1 in
-      let same : f.0 ≡ o = found_is (sym f.1 ∙ is) in
-      subst (λ z. lookup_parts w z p) same (sooner_parts w t f.0 q.0 f.2 p q.2)
+      let same : f.0 ≡ o = ok_is (sym f.1 ∙ is) in
+      subst (λ z. lookup_parts w z p) same (sooner_keeps (λ z. lookup_parts w z p → lookup_parts w f.0 p) (λ s on. absurd on) w t f.0 q.0 f.2 (λ on. on) q.2)
 
   -- and a refused one touches nothing
   pub touched_nothing : (e : Errno) → found_asks w t d path (request path flags mode) ≡ Err e → (p : Part) → touches_lookup w t d path flags mode p → ⊥

@@ -41,6 +41,7 @@ impl<'p> FoundAt<'_, 'p> {
     /// Whether the task has room for a port of it, if it makes one.
     ///
     /// Errors, in order: `ESRCH` no such task, `EOVERFLOW`.
+    #[tactic(auto, unfolding(hurd_machine::specs::Plan::on))]
     #[inline(always)]
     fn has_room<S: Server>(&self, core: &Core<S>, task: TaskId) -> Result<(), Errno>
         ensures { let w = world_of S.meaning core.now in result ≡ asked_only (ending_asks w task.0 (found_of w self.now)) }
@@ -111,6 +112,7 @@ impl Ready<'_> {
     /// Opens the node, makes the file and opens it, makes the port of a retry, or has the task start what waits on a node.
     ///
     /// `ENOMEM`.
+    #[tactic(auto, unfolding(hurd_machine::specs::Plan::answered, hurd_machine::specs::Plan::first, hurd_machine::specs::Plan::on))]
     #[inline(always)]
     pub(crate) fn done<S: Server>(
         self,
@@ -142,6 +144,7 @@ impl Ready<'_> {
 /// Makes the port of a retry, if it has one: that has no modes.
 ///
 /// `ENOMEM`.
+#[tactic(auto, unfolding(hurd_machine::specs::Plan::answered, hurd_machine::specs::Plan::first))]
 fn retried<S: Server>(
     core: &mut Core<S>,
     task: TaskId,

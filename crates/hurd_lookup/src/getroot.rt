@@ -106,6 +106,7 @@ fn root_asked<'a, S: Server>(
 /// the port `dir` came in by 64 ways; `EDIED`, `ENOTDIR` a directory is asked for, `EISDIR` to write a directory, `EROFS` to write a node
 /// of a server that only gives its text, `EACCES`. Last `EOVERFLOW`, unless it makes no port, and `ENOMEM`. A refused call changes
 /// nothing.
+#[tactic(auto, unfolding(hurd_machine::specs::Plan::answered, hurd_machine::specs::Plan::first))]
 pub fn fsys_getroot<S: Server>(
     core: &mut Core<S>,
     alloc: Global,

@@ -56,6 +56,7 @@ pub(crate) fn found_asked<'a, 'p, S: Server>(
 /// In place of a translator that waits, the one that is to be started first by the task, with its own ids.
 ///
 /// Errors: `ESRCH` no such task, those of `first_unstarted`.
+#[tactic(auto, unfolding(hurd_machine::specs::Plan::on, hurd_machine::specs::Plan::first))]
 #[inline(always)]
 fn sooner<'a, 'p, S: Server>(
     core: &Core<S>,
@@ -101,6 +102,7 @@ fn sooner<'a, 'p, S: Server>(
 /// directory, `EROFS` to write a node of a server that only gives its text, `EACCES`; of one to be made `EROFS` a server that
 /// keeps no tree, `EACCES` the ids may not write the directory, or have no uids, `ENOENT` a removed directory; where a translator is to be started, `ELOOP` nine
 /// others are needed for it, one for the other. Last `EOVERFLOW`, unless it makes no port, and `ENOMEM`, which may come in place of that `ELOOP`. A refused call changes nothing.
+#[tactic(auto, unfolding(hurd_machine::specs::Plan::answered, hurd_machine::specs::Plan::first))]
 pub fn dir_lookup<S: Server>(
     core: &mut Core<S>,
     alloc: Global,

@@ -179,6 +179,7 @@ fn look<S: Server>(core: &Core<S>, alloc: Global, ids: &Ids, leg: Leg) -> Result
 ///
 /// Errors: `ENOENT` no path from the root of the tree; at each look `EDIED`, `ENAMETOOLONG`, those of a lookup without flags along the path; `ELOOP` a retry past the 32nd; at
 /// the end `EDIED`, `ENOTDIR` the path asks for a directory. `ENOMEM`, where a retry's name or ways find no memory.
+#[tactic(auto, unfolding(hurd_machine::specs::Plan::first, crate::specs::Resolve::path_end))]
 pub(crate) fn path_end<S: Server>(
     core: &Core<S>,
     alloc: Global,

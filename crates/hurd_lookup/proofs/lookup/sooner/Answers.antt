@@ -1,23 +1,10 @@
--- What isn't to be started stays; else the one that is to be started first is sought with the ids of the task.
-use Rattle.std.proofs.Common.{inl, inr, refl}
+-- The one that is to be started first is sought with the ids of the task.
+use Rattle.std.proofs.Common.{inl, inr}
 use Rattle.std.proofs.lemmas.Result.{err_from_is_err_and}
 use Rattle.hurd_core.specs.Core.{world_of}
 use Rattle.hurd_lookup.specs.Seeking.{start_at}
-use Rattle.hurd_lookup.proofs.SeekingLaws.{sooner_is, sooner_none, sooner_not}
+use Rattle.hurd_lookup.proofs.SeekingLaws.{sooner_is, sooner_not}
 use Rattle.hurd_lookup.proofs.lookup.sooner.Goals as goal
-
-pub returns-in-Opens : goal.returns-in-Opens
-returns-in-Opens g c =
-    elim c.in-Opens.is [
-      | inl x ↦ (rw x.2 refl, c.requires)
-      | inr rest ↦ elim rest [ inl x ↦ (rw x.1 refl, c.requires) | inr x ↦ (rw x.1 refl, c.requires) ]
-    ]
-
-pub returns-in_err-ids-in-Starts : goal.returns-in_err-ids-in-Starts
-returns-in_err-ids-in-Starts g c =
-    let w = world_of g.S.Server.meaning c.args.core.now in
-    let p = err_from_is_err_and c.from_residual.result c.from_residual.ensures.1 in
-    rw (p.1, p.2, c.in-Starts.is) (inl (sooner_none w c.args.task.0 (start_at w c.in-Starts.node) _ c.in_err-ids-in-Starts.ensures))
 
 pub returns-in_err-first-in-Starts : goal.returns-in_err-first-in-Starts
 returns-in_err-first-in-Starts g c =

@@ -3,17 +3,8 @@ use Rattle.std.proofs.Common.{◌∙◌, inl, inr, sym}
 use Rattle.std.proofs.lemmas.Result.{err_from_is_err_and}
 use Rattle.hurd_core.specs.Core.{world_of}
 use Rattle.hurd_lookup.specs.Legs.{leg_of}
-use Rattle.hurd_lookup.proofs.LegLaws.{path_end_from, path_end_refused, legs_one}
+use Rattle.hurd_lookup.proofs.LegLaws.{legs_one}
 use Rattle.hurd_lookup.proofs.resolve.path_end.Goals as goal
-
-pub returns-in_err-leg : goal.returns-in_err-leg
-returns-in_err-leg g c =
-    let w = world_of g.S.Server.meaning c.args.core.now in
-    let p = err_from_is_err_and c.from_residual.result c.from_residual.ensures.1 in
-    rw (p.1, p.2) (elim c.in_err-leg.ensures [ inl refused ↦ inl (path_end_refused w c.args.ids.now c.args.path.now _ refused) | inr lacks ↦ inr lacks ])
-
-pub loop-left-init : goal.loop-left-init
-loop-left-init g c = path_end_from (world_of g.S.Server.meaning c.args.core.now) c.args.ids.now c.args.path.now (leg_of c.in_ok-leg.leg) c.in_ok-leg.ensures
 
 pub returns-in_err-end : goal.returns-in_err-end
 returns-in_err-end g c =
