@@ -54,7 +54,8 @@ fn front(line: &[u8]) -> &[u8]
     front
 }
 
-/// Prints a line, or a text as one line: its first 200 bytes, a space as it is and another byte with the escapes of lists, and dots where there are more. An error is want of memory.
+/// Prints a line, or a text as one line: its first 200 bytes, and dots where there are more. A space stays as it is, and another byte has the escapes of
+/// lists. An error is want of memory.
 pub fn push_shown_line(text: &mut Vec<u8>, line: &[u8]) -> Result<(), AllocError>
     ensures { OnOk result (text.new.items ≡ text.old.items ++ shown_line line.now) }
 {
