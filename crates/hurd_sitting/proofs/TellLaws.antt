@@ -1,7 +1,6 @@
 -- What calls tell those who are told what they learn, in several texts and in one.
-use Rattle.std.proofs.Common.{◌≡◌, ◌∙◌, ◌||◌, ◌+◌, ℕ, Bool, false, not, List, [], ◌∷◌, ◌++◌, Option, Some, None, Result, Ok, Err, Vec, Global, ap, append-nil, append_assoc, arith, nat_lt, refl, subst, sym}
-use Rattle.std.specs.Prelude.{IfOk, OnOk}
-use Rattle.std.proofs.lemmas.Bool.Decides.{nat_tests}
+use Rattle.std.proofs.Common.{◌≡◌, ◌∙◌, ◌||◌, ◌+◌, ℕ, Bool, false, not, List, [], ◌∷◌, ◌++◌, Option, Some, None, ap, append-nil, append_assoc, arith, refl, subst, sym}
+use Rattle.std.proofs.lemmas.Bool.{le-ltb}
 use Rattle.hurd_creds.specs.declared.name.TaskId.{TaskId}
 use Rattle.hurd_lists.specs.Lists.{Listed}
 use Rattle.hurd_machine.specs.World.{World}
@@ -13,19 +12,16 @@ use Rattle.hurd_sentences.specs.Turns.{paragraph}
 use Rattle.hurd_lessons.specs.Told.{Lesson, Said}
 use Rattle.hurd_teaching.specs.Learners.{is_quiet}
 use Rattle.hurd_teaching.specs.Lessons.{LessonsOf, told_text}
-use Rattle.hurd_teaching.specs.Telling.{SaysOf, Shows}
-use Rattle.hurd_teaching.specs.Watched.{SeenOf, Sees}
+use Rattle.hurd_teaching.specs.Telling.{SaysOf}
+use Rattle.hurd_teaching.specs.Watched.{Sees}
 use Rattle.hurd_teaching.specs.declared.learners.Learners.{Learners}
-use Rattle.hurd_teaching.proofs.StepLaws.{kept_here, lesson}
+use Rattle.hurd_teaching.proofs.StepLaws.{lesson}
 use Rattle.hurd_sitting.specs.Sittings.{Tells, at_once, behind, told_by}
 use Rattle.hurd_sitting.proofs.PartLaws.{as_one, none_told, one_told}
 
 -- lessons have begun, however many calls were made
-begun : (n : ℕ) → nat_lt n 0 ≡ false
-begun n = grind (arith, nat_tests)
-
 quiet_anywhere : (tasks : List TaskId) (n task : ℕ) → is_quiet tasks 0 n task ≡ among tasks task
-quiet_anywhere tasks n task = ap (λ (b : Bool). b || among tasks task) (begun n)
+quiet_anywhere tasks n task = ap (λ (b : Bool). b || among tasks task) (le-ltb n 0 (omega arith))
 
 module _ (l : Learners) where
   -- lessons are the same, however many calls were made before them
@@ -101,16 +97,3 @@ paragraph_tells l c w x quiet before after said text is sees made says prints =
       ),
       prints ∙ sym (append-nil (paragraph (part_of c w) (said ++ []))),
     )
-
--- whether or not it was printed
-pub paragraph_told : {E : Type 0} (l : Learners) (c : Listed) (w x : World) (quiet : Bool) (before after : Option View) (said part shown : List ℕ) (r : Result (Vec ℕ Global) E)
-    → quiet ≡ among l.tasks.items c.task.0 → (quiet ≡ false → Sees l.tasks.items w before) → x ≡ after_call c w → SaysOf l.tasks.items l.who.items quiet x before after said → part ≡ part_of c w
-    → shown ≡ [] → IfOk r (λ text. text.items ≡ paragraph part (said ++ shown)) → IfOk r (λ text. Tells (Some l) (c ∷ []) w text.items)
-paragraph_told l c w x quiet before after said part shown (Err e) is sees made says here none printed = tt
-paragraph_told l c w x quiet before after said part shown (Ok text) is sees made says here none printed =
-    paragraph_tells l c w x quiet before after said text.items is sees made says (printed ∙ (λ i. paragraph (here i) (said ++ none i)))
-
-pub still_seen : {A E : Type 0} (l : Learners) (x : World) (quiet : Bool) (before after : Option View) (said : List ℕ) (r : Result A E) → SaysOf l.tasks.items l.who.items quiet x before after said
-    → OnOk r (SeenOf l.tasks.items x after)
-still_seen l x quiet before after said (Err e) says = tt
-still_seen l x quiet before after said (Ok a) says = kept_here l.tasks.items (at_once l) x quiet before after said says

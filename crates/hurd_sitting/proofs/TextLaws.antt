@@ -1,6 +1,6 @@
 -- What a list and then a text tell, and what both tell as one list.
-use Rattle.std.proofs.Common.{◌≡◌, ◌∙◌, ◌≤◌, ℕ, false, List, [], ◌∷◌, ◌++◌, None, Result, Ok, Err, ap, arith, length, nat_lt, refl, sym}
-use Rattle.std.proofs.lemmas.Bool.Decides.{nat_tests}
+use Rattle.std.proofs.Common.{◌≡◌, ◌∙◌, ◌≤◌, ℕ, List, [], ◌∷◌, ◌++◌, None, Result, Ok, Err, ap, length, refl, sym}
+use Rattle.std.proofs.lemmas.Bool.{le-ltb}
 use Rattle.hurd_creds.specs.Access.{IdSets}
 use Rattle.hurd_creds.specs.Limits.{most_script}
 use Rattle.hurd_lists.specs.Flaws.{BadLine}
@@ -23,9 +23,6 @@ calls_said (Ok more) calls e =
     let alone = no_tasks more.tasks more.calls calls e in
     (more, refl, alone.0, alone.1)
 
-not_long : (n : ℕ) → n ≤ most_script → nat_lt most_script n ≡ false
-not_long n few = grind (arith, nat_tests)
-
 pub texts_one : (list text told more : List ℕ) (w x : World) → Begins list told w → Makes None text w more x → length (list ++ 10 ∷ text) ≤ most_script
     → Begins (list ++ 10 ∷ text) (told ++ more) x
 texts_one list text told more w x begins makes few =
@@ -34,7 +31,7 @@ texts_one list text told more w x begins makes few =
     let both = as_one begins.said.calls makes.calls first in
     record {
       said = record { tasks = begins.said.tasks; calls = begins.said.calls ++ makes.calls };
-      reads = joined_read list text begins.said alone.0 begins.reads alone.1 alone.2 (not_long _ few)
+      reads = joined_read list text begins.said alone.0 begins.reads alone.1 alone.2 (le-ltb most_script _ few)
           ∙ ap (λ (cs : List Listed). Ok (record { tasks = begins.said.tasks; calls = begins.said.calls ++ cs })) alone.3;
       boots = begins.boots;
       tells = ap (λ (bs : List ℕ). bs ++ more) begins.tells

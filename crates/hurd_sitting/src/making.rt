@@ -1,20 +1,19 @@
 //! Making calls one after another, and telling each.
-ghost use Rattle.std.specs.Prelude.{◌≡◌, ◌⊎◌, ◌∷◌, [], false, Some, IfErr, IfOk, OnOk};
+ghost use Rattle.std.specs.Prelude.{◌≡◌, ◌⊎◌, ◌∷◌, [], Some, IfErr, IfOk, OnOk};
 ghost use Rattle.std.specs.Option.{option_map};
 ghost use Rattle.hurd_kinds.specs.Boxes.{box_meaning};
 ghost use Rattle.hurd_lists.specs.Lists.{listed_by};
-ghost use Rattle.hurd_sight.specs.Reach.{among};
 ghost use Rattle.hurd_world.specs.Held.{world_of};
 ghost use Rattle.hurd_calls.specs.Making.{after_call, part_of};
-ghost use Rattle.hurd_teaching.specs.Watched.{SeenOf, Sees};
+ghost use Rattle.hurd_teaching.specs.Watched.{SeenOf};
 ghost use Rattle.hurd_sitting.specs.Sittings.{Adds, SomeMade, Tells, behind, listed};
 ghost use Rattle.hurd_sitting.specs.Watching.{SeenBy};
 
 use hurd_calls::{brought, part};
-use hurd_creds::{Bytes, TaskId};
+use hurd_creds::Bytes;
 use hurd_kinds::ServerBox;
 use hurd_lists::ListedCall;
-use hurd_teaching::{Learners, Watch, paragraph, said};
+use hurd_teaching::{Learners, Watch, look_before, paragraph, said};
 use hurd_world::World;
 use std::alloc::{AllocError, Global};
 
@@ -33,26 +32,6 @@ fn made(
     part(world, alloc, listed, server)
 }
 
-/// Whether a task is one of these, of which nothing is said. Before any other's call it is looked at what these see, unless that was done. An error is want of
-/// memory.
-fn looked(
-    alloc: Global,
-    world: &World<ServerBox>,
-    task: TaskId,
-    learners: &Learners,
-    watch: &mut Watch,
-) -> Result<bool, AllocError>
-    requires { SeenOf learners.now.tasks.items (world_of box_meaning world.now) watch.old.seen }
-    ensures quiet { IfOk result (λ quiet. quiet ≡ among learners.now.tasks.items task.0) }
-    ensures sees { IfOk result (λ quiet. quiet ≡ false → Sees learners.now.tasks.items (world_of box_meaning world.now) watch.new.seen) }
-{
-    let quiet = learners.have(task);
-    if !quiet {
-        watch.look(alloc, world, learners.tasks.as_slice())?;
-    }
-    Ok(quiet)
-}
-
 /// Makes a call, and gives its paragraph: what is printed of it, and what these learn by it where it is another's. An error is want of memory: then the call
 /// was made, or nothing changed.
 fn paragraph_of(
@@ -69,7 +48,8 @@ fn paragraph_of(
     ensures err { IfErr result (λ _. (world_of box_meaning world.new ≡ world_of box_meaning world.old)
         ⊎ (world_of box_meaning world.new ≡ after_call (listed_by box_meaning listed) (world_of box_meaning world.old))) }
 {
-    let quiet = looked(alloc, world, listed.task, learners, watch)?;
+    let quiet = learners.have(listed.task);
+    look_before(alloc, world, learners, watch, quiet)?;
     let part = made(world, alloc, listed)?;
     let said = said(alloc, world, learners, watch, quiet)?;
     let shown = Bytes::new(Vec::new(alloc));
