@@ -11,7 +11,7 @@ use bitflags::Flags;
 use hurd_creds::{Bytes, Errno, GoawayFlags, Ids, Mode, OpenFlags, TaskId, TransFlags};
 use hurd_machine::Setting;
 use hurd_trans_iface::{Server, Words};
-use hurd_world::{Call, Lookup, Reply, World};
+use hurd_world::{Call, Lookup, PlainCall, Reply, World};
 use std::alloc::Global;
 
 const ROOT: TaskId = TaskId(0);
@@ -59,11 +59,11 @@ impl<S: Server> Tree<S> {
     /// Makes the directories, in which everybody may make files.
     pub fn make_directories(&mut self, count: usize) -> Result<(), Errno> {
         for directory in 0..count {
-            let call = Call::DirMkdir {
+            let call = Call::Plain(PlainCall::DirMkdir {
                 dir: HERE,
                 name: directory_name(self.alloc, directory)?,
                 mode: Mode::from_bits_truncate(0o777),
-            };
+            });
             done(self.world.call(self.alloc, ROOT, call))?;
         }
         Ok(())
@@ -108,12 +108,12 @@ impl<S: Server> Tree<S> {
 
     /// Opens a path as the user.
     fn open(&mut self, path: Bytes, flags: OpenFlags) -> Result<u64, Errno> {
-        let call = Call::DirLookup {
+        let call = Call::Plain(PlainCall::DirLookup {
             dir: HERE,
             path,
             flags,
             mode: Mode::from_bits_truncate(0o644),
-        };
+        });
         match self.world.call(self.alloc, USER, call) {
             Reply::Found(Lookup::Done(port)) => Ok(port),
             Reply::Refused(errno) => Err(errno),
@@ -130,19 +130,22 @@ impl<S: Server> Tree<S> {
     /// Gives a port up.
     fn close(&mut self, port: u64) -> Result<(), Errno> {
         done(
-            self.world
-                .call(self.alloc, USER, Call::PortDeallocate { port }),
+            self.world.call(
+                self.alloc,
+                USER,
+                Call::Plain(PlainCall::PortDeallocate { port }),
+            ),
         )
     }
 
     fn create(&mut self, file: usize) -> Result<(), Errno> {
         let path = file_path(self.alloc, file)?;
         let port = self.open(path, OpenFlags::WRITE.union(OpenFlags::CREATE))?;
-        let call = Call::IoWrite {
+        let call = Call::Plain(PlainCall::IoWrite {
             port,
             bytes: Bytes::copied(self.alloc, CONTENTS)?,
             offset: 0,
-        };
+        });
         match self.world.call(self.alloc, USER, call) {
             Reply::Count(_) => self.close(port),
             Reply::Refused(errno) => Err(errno),
@@ -153,11 +156,11 @@ impl<S: Server> Tree<S> {
     fn read(&mut self, file: usize) -> Result<(), Errno> {
         let path = file_path(self.alloc, file)?;
         let port = self.open(path, OpenFlags::READ)?;
-        let call = Call::IoRead {
+        let call = Call::Plain(PlainCall::IoRead {
             port,
             amount: 100,
             offset: 0,
-        };
+        });
         match self.world.call(self.alloc, USER, call) {
             Reply::Data(bytes) => self.close_read(port, bytes),
             Reply::Refused(errno) => Err(errno),
@@ -176,7 +179,10 @@ impl<S: Server> Tree<S> {
     fn stat(&mut self, file: usize) -> Result<(), Errno> {
         let path = file_path(self.alloc, file)?;
         let port = self.open(path, OpenFlags::empty())?;
-        match self.world.call(self.alloc, USER, Call::IoStat { port }) {
+        match self
+            .world
+            .call(self.alloc, USER, Call::Plain(PlainCall::IoStat { port }))
+        {
             Reply::Stat(_) => self.close(port),
             Reply::Refused(errno) => Err(errno),
             _ => Err(Errno::EIO),
@@ -185,12 +191,12 @@ impl<S: Server> Tree<S> {
 
     fn rename(&mut self, file: usize) -> Result<(), Errno> {
         let port = self.open_directory(file)?;
-        let call = Call::DirRename {
+        let call = Call::Plain(PlainCall::DirRename {
             dir: port,
             name: file_name(self.alloc, file)?,
             to: port,
             new: new_name(self.alloc, file)?,
-        };
+        });
         done(self.world.call(self.alloc, USER, call))?;
         self.close(port)
     }
@@ -209,8 +215,11 @@ impl<S: Server> Tree<S> {
     fn take_away(&mut self, file: usize, name: Bytes) -> Result<(), Errno> {
         let port = self.open_directory(file)?;
         done(
-            self.world
-                .call(self.alloc, USER, Call::DirUnlink { dir: port, name }),
+            self.world.call(
+                self.alloc,
+                USER,
+                Call::Plain(PlainCall::DirUnlink { dir: port, name }),
+            ),
         )?;
         self.close(port)
     }

@@ -7,7 +7,7 @@ use bitflags::Flags;
 use hurd_creds::{Bytes, Errno, GoawayFlags, Ids, Mode, OpenFlags, TaskId, TransFlags};
 use hurd_machine::Setting;
 use hurd_trans_iface::{Server, Words};
-use hurd_world::{Call, Lookup, Reply, World};
+use hurd_world::{Call, Lookup, PlainCall, Reply, World};
 use std::alloc::Global;
 
 pub const ROOT: TaskId = TaskId(0);
@@ -41,12 +41,12 @@ impl<S: Server> Tree<S> {
 
     /// Opens a file; a new one may be written by its owner, and read by all.
     pub fn open(&mut self, task: TaskId, path: &str, flags: OpenFlags) -> Result<u64, Errno> {
-        let call = Call::DirLookup {
+        let call = Call::Plain(PlainCall::DirLookup {
             dir: HERE,
             path: Bytes::copied(self.alloc, path.as_bytes())?,
             flags,
             mode: Mode::from_bits_truncate(0o644),
-        };
+        });
         match self.world.call(self.alloc, task, call) {
             Reply::Found(Lookup::Done(port)) => Ok(port),
             Reply::Refused(errno) => Err(errno),
@@ -56,11 +56,11 @@ impl<S: Server> Tree<S> {
 
     /// Writes a text to a new file.
     pub fn write(&mut self, task: TaskId, path: &str, text: &str) -> Result<(), Errno> {
-        let call = Call::IoWrite {
+        let call = Call::Plain(PlainCall::IoWrite {
             port: self.open(task, path, OpenFlags::WRITE.union(OpenFlags::CREATE))?,
             bytes: Bytes::copied(self.alloc, text.as_bytes())?,
             offset: 0,
-        };
+        });
         match self.world.call(self.alloc, task, call) {
             Reply::Count(_) => Ok(()),
             Reply::Refused(errno) => Err(errno),
@@ -70,11 +70,11 @@ impl<S: Server> Tree<S> {
 
     /// Reads the first hundred bytes of a file.
     pub fn read(&mut self, task: TaskId, path: &str) -> Result<String, Errno> {
-        let call = Call::IoRead {
+        let call = Call::Plain(PlainCall::IoRead {
             port: self.open(task, path, OpenFlags::READ)?,
             amount: 100,
             offset: 0,
-        };
+        });
         match self.world.call(self.alloc, task, call) {
             Reply::Data(text) => String::from_utf8(text.into_vec()).map_err(|_| Errno::EIO),
             Reply::Refused(errno) => Err(errno),

@@ -1,7 +1,8 @@
 -- The laws of one step, from those of each call: each call has a line.
 use Rattle.std.proofs.Common.{ℕ, sym}
 use Rattle.hurd_machine.proofs.Common.{Call, Part, TaskOf, World, box_in}
-use Rattle.hurd_machine.specs.declared.call.Call.TheVariants.{PortDeallocate, PortSend, PortReceive, AuthMakeauth, DirLookup, IoRead, IoWrite, IoSeek, IoStat, IoReadable, IoGetOpenmodes, IoSetAllOpenmodes, IoDuplicate, IoReauthenticate, IoRestrictAuth, IoIdentity, FileSetSize, FileChmod, FileChown, FileCheckAccess, FileSetTranslator, FileGetTranslator, FileGetTranslatorCntl, FileGetcontrol, FsysStartup, StartFailed, FsysGetroot, FsysGoaway, FsysGetOptions, FsysSetOptions, DirReaddir, DirMkdir, DirRmdir, DirUnlink, DirLink, DirMkfile, DirRename}
+use Rattle.hurd_machine.specs.declared.call.Call.TheVariants.{Plain, FileSetTranslator, FsysStartup}
+use Rattle.hurd_machine.specs.declared.call.PlainCall.TheVariants.{PortDeallocate, PortSend, PortReceive, AuthMakeauth, DirLookup, IoRead, IoWrite, IoSeek, IoStat, IoReadable, IoGetOpenmodes, IoSetAllOpenmodes, IoDuplicate, IoReauthenticate, IoRestrictAuth, IoIdentity, FileSetSize, FileChmod, FileChown, FileCheckAccess, FileGetTranslator, FileGetTranslatorCntl, FileGetcontrol, StartFailed, FsysGetroot, FsysGoaway, FsysGetOptions, FsysSetOptions, DirReaddir, DirMkdir, DirRmdir, DirUnlink, DirLink, DirMkfile, DirRename}
 use Rattle.hurd_machine.proofs.Frame.{IsUnnamed, gone_kept}
 use Rattle.hurd_machine.proofs.CallLaws.{CallLaws, returning_laws}
 use Rattle.hurd_machine.proofs.CallLaws as call
@@ -26,43 +27,43 @@ use Rattle.hurd_laws.specs.Step.{row, plan, touches, after}
 use Rattle.hurd_laws.specs.Laws.{IsOld, ChangesTouched, GoneUnseen, OthersUnseen, OwnFromView, StaysSound, NeverWantsMemory}
 
 row_laws : (t : ℕ) (c : Call) → CallLaws t (λ w. row w t c) (λ w. touches w t c)
-row_laws t (PortDeallocate p) = deallocate_laws t p
-row_laws t (PortSend p q) = send_laws t p q.0
-row_laws t PortReceive = receive_laws t
-row_laws t (AuthMakeauth ids) = makeauth_laws t ids
-row_laws t (DirLookup p path flags mode) = lookup_laws t p path flags mode
-row_laws t (IoRead p amount offset) = read_laws t p amount offset
-row_laws t (IoWrite p bytes offset) = write_laws t p bytes offset
-row_laws t (IoSeek p offset whence) = seek_laws t p offset whence
-row_laws t (IoStat p) = stat_laws t p
-row_laws t (IoReadable p) = readable_laws t p
-row_laws t (IoGetOpenmodes p) = get_openmodes_laws t p
-row_laws t (IoSetAllOpenmodes p flags) = set_openmodes_laws t p flags
-row_laws t (IoDuplicate p) = duplicate_laws t p
-row_laws t (IoReauthenticate p) = reauthenticate_laws t p
-row_laws t (IoRestrictAuth p ids) = restrict_auth_laws t p ids
-row_laws t (IoIdentity p q) = identity_laws t p q
-row_laws t (FileSetSize p size) = set_size_laws t p size
-row_laws t (FileChmod p mode) = chmod_laws t p mode
-row_laws t (FileChown p owner group) = chown_laws t p owner group
-row_laws t (FileCheckAccess p) = check_access_laws t p
+row_laws t (Plain (PortDeallocate p)) = deallocate_laws t p
+row_laws t (Plain (PortSend p q)) = send_laws t p q.0
+row_laws t (Plain PortReceive) = receive_laws t
+row_laws t (Plain (AuthMakeauth ids)) = makeauth_laws t ids
+row_laws t (Plain (DirLookup p path flags mode)) = lookup_laws t p path flags mode
+row_laws t (Plain (IoRead p amount offset)) = read_laws t p amount offset
+row_laws t (Plain (IoWrite p bytes offset)) = write_laws t p bytes offset
+row_laws t (Plain (IoSeek p offset whence)) = seek_laws t p offset whence
+row_laws t (Plain (IoStat p)) = stat_laws t p
+row_laws t (Plain (IoReadable p)) = readable_laws t p
+row_laws t (Plain (IoGetOpenmodes p)) = get_openmodes_laws t p
+row_laws t (Plain (IoSetAllOpenmodes p flags)) = set_openmodes_laws t p flags
+row_laws t (Plain (IoDuplicate p)) = duplicate_laws t p
+row_laws t (Plain (IoReauthenticate p)) = reauthenticate_laws t p
+row_laws t (Plain (IoRestrictAuth p ids)) = restrict_auth_laws t p ids
+row_laws t (Plain (IoIdentity p q)) = identity_laws t p q
+row_laws t (Plain (FileSetSize p size)) = set_size_laws t p size
+row_laws t (Plain (FileChmod p mode)) = chmod_laws t p mode
+row_laws t (Plain (FileChown p owner group)) = chown_laws t p owner group
+row_laws t (Plain (FileCheckAccess p)) = check_access_laws t p
 row_laws t (FileSetTranslator p setting words server) = set_translator_laws t p setting words server
-row_laws t (FileGetTranslator p) = get_translator_laws t p
-row_laws t (FileGetTranslatorCntl p) = cntl_laws t p
-row_laws t (FileGetcontrol p) = getcontrol_laws t p
+row_laws t (Plain (FileGetTranslator p)) = get_translator_laws t p
+row_laws t (Plain (FileGetTranslatorCntl p)) = cntl_laws t p
+row_laws t (Plain (FileGetcontrol p)) = getcontrol_laws t p
 row_laws t (FsysStartup server) = startup_laws t server
-row_laws t StartFailed = start_failed_laws t
-row_laws t (FsysGetroot c dir flags) = getroot_laws t c dir flags
-row_laws t (FsysGoaway c flags) = goaway_laws t c flags
-row_laws t (FsysGetOptions c) = get_options_laws t c
-row_laws t (FsysSetOptions c words) = set_options_laws t c words
-row_laws t (DirReaddir p) = readdir_laws t p
-row_laws t (DirMkdir p name mode) = mkdir_laws t p name mode
-row_laws t (DirMkfile p flags mode) = mkfile_laws t p flags mode
-row_laws t (DirRmdir p name) = rmdir_laws t p name
-row_laws t (DirUnlink p name) = unlink_laws t p name
-row_laws t (DirLink p name q) = link_laws t p name q
-row_laws t (DirRename p name q new) = rename_laws t p q name new
+row_laws t (Plain StartFailed) = start_failed_laws t
+row_laws t (Plain (FsysGetroot c dir flags)) = getroot_laws t c dir flags
+row_laws t (Plain (FsysGoaway c flags)) = goaway_laws t c flags
+row_laws t (Plain (FsysGetOptions c)) = get_options_laws t c
+row_laws t (Plain (FsysSetOptions c words)) = set_options_laws t c words
+row_laws t (Plain (DirReaddir p)) = readdir_laws t p
+row_laws t (Plain (DirMkdir p name mode)) = mkdir_laws t p name mode
+row_laws t (Plain (DirMkfile p flags mode)) = mkfile_laws t p flags mode
+row_laws t (Plain (DirRmdir p name)) = rmdir_laws t p name
+row_laws t (Plain (DirUnlink p name)) = unlink_laws t p name
+row_laws t (Plain (DirLink p name q)) = link_laws t p name q
+row_laws t (Plain (DirRename p name q new)) = rename_laws t p q name new
 
 -- with the box back
 pub laws_of : (t : ℕ) (c : Call) → CallLaws t (λ w. plan w t c) (λ w. touches w t c)

@@ -7,7 +7,8 @@ use Rattle.hurd_ports.proofs.TaskLaws.{edit-here, one_or_other}
 use Rattle.hurd_core.specs.Core.{send_asks}
 use Rattle.hurd_rights.specs.Rights.{plan_send}
 use Rattle.hurd_laws.specs.Laws.{IsOld}
-use Rattle.hurd_machine.specs.declared.call.Call.TheVariants.{PortDeallocate, PortSend, DirLookup, IoRead, IoWrite, IoSeek, IoSetAllOpenmodes, IoDuplicate, IoReauthenticate, IoRestrictAuth, FileSetSize, FileChmod, FileChown, FileSetTranslator, FsysStartup, FsysGetroot, FsysGoaway, FsysSetOptions, DirMkdir, DirRmdir, DirUnlink, DirLink, DirMkfile, DirRename}
+use Rattle.hurd_machine.specs.declared.call.Call.TheVariants.{Plain, FileSetTranslator, FsysStartup}
+use Rattle.hurd_machine.specs.declared.call.PlainCall.TheVariants.{PortDeallocate, PortSend, DirLookup, IoRead, IoWrite, IoSeek, IoSetAllOpenmodes, IoDuplicate, IoReauthenticate, IoRestrictAuth, FileSetSize, FileChmod, FileChown, FsysGetroot, FsysGoaway, FsysSetOptions, DirMkdir, DirRmdir, DirUnlink, DirLink, DirMkfile, DirRename}
 use Rattle.hurd_laws.specs.Step.{plan, touches, after}
 use Rattle.hurd_laws.specs.Integrity.{IsDelivered, IsLost, MayChange}
 use Rattle.hurd_laws.proofs.Assembled.{laws_of, old_named}
@@ -21,34 +22,34 @@ use Rattle.hurd_laws.proofs.MayLookup.{lookup_may, getroot_may}
 
 -- the task to which a call sends
 abbrev SendsTo : Call → Part → Type 0
-SendsTo (PortSend p q) k = k ≡ TaskOf q.0
+SendsTo (Plain (PortSend p q)) k = k ≡ TaskOf q.0
 SendsTo c k = ⊥
 
 touches_may : (t : ℕ) (c : Call) (S : ℕ → Bool) (w : World) → Sound w → S t ≡ true → (k : Part) → touches w t c k → MayChange S w k ⊎ SendsTo c k
-touches_may t (PortDeallocate p) S w s ours k on = inl (deallocate_may t p S w s ours k on)
-touches_may t (PortSend p q) S w s ours k on = send_may t p q.0 S w ours k on
-touches_may t (DirLookup p path flags mode) S w s ours k on = inl (lookup_may t p path flags mode S w s ours k on)
-touches_may t (IoRead p amount offset) S w s ours k on = inl (read_may t p amount offset S w s ours k on)
-touches_may t (IoWrite p bytes offset) S w s ours k on = inl (write_may t p bytes offset S w s ours k on)
-touches_may t (IoSeek p offset whence) S w s ours k on = inl (seek_may t p offset whence S w s ours k on)
-touches_may t (IoSetAllOpenmodes p flags) S w s ours k on = inl (set_openmodes_may t p flags S w s ours k on)
-touches_may t (IoDuplicate p) S w s ours k on = inl (share_may t p S w s ours k on)
-touches_may t (IoReauthenticate p) S w s ours k on = inl (share_may t p S w s ours k on)
-touches_may t (IoRestrictAuth p ids) S w s ours k on = inl (share_may t p S w s ours k on)
-touches_may t (FileSetSize p size) S w s ours k on = inl (set_size_may t p size S w s ours k on)
-touches_may t (FileChmod p mode) S w s ours k on = inl (chmod_may t p mode S w s ours k on)
-touches_may t (FileChown p owner group) S w s ours k on = inl (chown_may t p owner group S w s ours k on)
+touches_may t (Plain (PortDeallocate p)) S w s ours k on = inl (deallocate_may t p S w s ours k on)
+touches_may t (Plain (PortSend p q)) S w s ours k on = send_may t p q.0 S w ours k on
+touches_may t (Plain (DirLookup p path flags mode)) S w s ours k on = inl (lookup_may t p path flags mode S w s ours k on)
+touches_may t (Plain (IoRead p amount offset)) S w s ours k on = inl (read_may t p amount offset S w s ours k on)
+touches_may t (Plain (IoWrite p bytes offset)) S w s ours k on = inl (write_may t p bytes offset S w s ours k on)
+touches_may t (Plain (IoSeek p offset whence)) S w s ours k on = inl (seek_may t p offset whence S w s ours k on)
+touches_may t (Plain (IoSetAllOpenmodes p flags)) S w s ours k on = inl (set_openmodes_may t p flags S w s ours k on)
+touches_may t (Plain (IoDuplicate p)) S w s ours k on = inl (share_may t p S w s ours k on)
+touches_may t (Plain (IoReauthenticate p)) S w s ours k on = inl (share_may t p S w s ours k on)
+touches_may t (Plain (IoRestrictAuth p ids)) S w s ours k on = inl (share_may t p S w s ours k on)
+touches_may t (Plain (FileSetSize p size)) S w s ours k on = inl (set_size_may t p size S w s ours k on)
+touches_may t (Plain (FileChmod p mode)) S w s ours k on = inl (chmod_may t p mode S w s ours k on)
+touches_may t (Plain (FileChown p owner group)) S w s ours k on = inl (chown_may t p owner group S w s ours k on)
 touches_may t (FileSetTranslator p setting words server) S w s ours k on = inl (set_translator_may t p setting server S w s ours k on)
 touches_may t (FsysStartup server) S w s ours k on = inl (startup_may t server S w s ours k on)
-touches_may t (FsysGetroot c dir flags) S w s ours k on = inl (getroot_may t c dir flags S w s ours k on)
-touches_may t (FsysGoaway c flags) S w s ours k on = inl (goaway_may t c flags S w s ours k on)
-touches_may t (FsysSetOptions c words) S w s ours k on = inl (set_options_may t c words S w s ours k on)
-touches_may t (DirMkdir p name mode) S w s ours k on = inl (mkdir_may t p name mode S w s ours k on)
-touches_may t (DirMkfile p flags mode) S w s ours k on = inl (mkfile_may t p flags mode S w s ours k on)
-touches_may t (DirRmdir p name) S w s ours k on = inl (rmdir_may t p name S w s ours k on)
-touches_may t (DirUnlink p name) S w s ours k on = inl (unlink_may t p name S w s ours k on)
-touches_may t (DirLink p name q) S w s ours k on = inl (link_may t p name q S w s ours k on)
-touches_may t (DirRename p name q new) S w s ours k on = inl (rename_may t p name q new S w s ours k on)
+touches_may t (Plain (FsysGetroot c dir flags)) S w s ours k on = inl (getroot_may t c dir flags S w s ours k on)
+touches_may t (Plain (FsysGoaway c flags)) S w s ours k on = inl (goaway_may t c flags S w s ours k on)
+touches_may t (Plain (FsysSetOptions c words)) S w s ours k on = inl (set_options_may t c words S w s ours k on)
+touches_may t (Plain (DirMkdir p name mode)) S w s ours k on = inl (mkdir_may t p name mode S w s ours k on)
+touches_may t (Plain (DirMkfile p flags mode)) S w s ours k on = inl (mkfile_may t p flags mode S w s ours k on)
+touches_may t (Plain (DirRmdir p name)) S w s ours k on = inl (rmdir_may t p name S w s ours k on)
+touches_may t (Plain (DirUnlink p name)) S w s ours k on = inl (unlink_may t p name S w s ours k on)
+touches_may t (Plain (DirLink p name q)) S w s ours k on = inl (link_may t p name q S w s ours k on)
+touches_may t (Plain (DirRename p name q new)) S w s ours k on = inl (rename_may t p name q new S w s ours k on)
 touches_may t c S w s ours k on = absurd on
 
 -- one's own task one may change
@@ -87,8 +88,8 @@ delivered S w t p q ours P is = go (send_asks w t p q) refl is
     go (Ok r) asked is = subst (λ z. Left S w (after_plan w z) (TaskOf q)) is (inr (inr (record { right = r; held = sent_held t ours p q r asked; is_last = edit-here q (with_sent r) w.tasks })))
 
 pub parts_kept : (w : World) (t : ℕ) (c : Call) → Sound w → (S : ℕ → Bool) (k : Part) → S t ≡ true → IsOld w k → (MayChange S w k → ⊥) → Left S w (after w t c) k
-parts_kept w t (PortSend p q) s S k ours old out = elim (is_task k q.0) [
-  | inl e ↦ subst (Left S w (after w t (PortSend p q))) (sym e) (delivered S w t p q.0 ours (plan_send w t p q.0) refl)
-  | inr a ↦ kept S w t (PortSend p q) k s ours old out a
+parts_kept w t (Plain (PortSend p q)) s S k ours old out = elim (is_task k q.0) [
+  | inl e ↦ subst (Left S w (after w t (Plain (PortSend p q)))) (sym e) (delivered S w t p q.0 ours (plan_send w t p q.0) refl)
+  | inr a ↦ kept S w t (Plain (PortSend p q)) k s ours old out a
 ]
 parts_kept w t c s S k ours old out = kept S w t c k s ours old out (λ e. e)

@@ -8,7 +8,8 @@ use Rattle.hurd_machine.proofs.Common.{Call, Change, DropServer, EditBody, EditH
 use Rattle.hurd_machine.specs.declared.call.Setting.{Setting}
 use Rattle.hurd_machine.specs.Change.{letting_go, retexting}
 use Rattle.hurd_machine.specs.Plan.{returning}
-use Rattle.hurd_machine.specs.declared.call.Call.TheVariants.{PortDeallocate, DirLookup, IoRead, IoWrite, FileSetSize, FileChmod, FileChown, FileSetTranslator, FileGetTranslatorCntl, FileGetcontrol, FsysStartup, StartFailed, FsysGetroot, FsysGoaway, FsysSetOptions, DirMkdir, DirRmdir, DirUnlink, DirLink, DirMkfile, DirRename}
+use Rattle.hurd_machine.specs.declared.call.Call.TheVariants.{Plain, FileSetTranslator, FsysStartup}
+use Rattle.hurd_machine.specs.declared.call.PlainCall.TheVariants.{PortDeallocate, DirLookup, IoRead, IoWrite, FileSetSize, FileChmod, FileChown, FileGetTranslatorCntl, FileGetcontrol, StartFailed, FsysGetroot, FsysGoaway, FsysSetOptions, DirMkdir, DirRmdir, DirUnlink, DirLink, DirMkfile, DirRename}
 use Rattle.hurd_machine.proofs.Asks.{answered_all}
 use Rattle.hurd_core.specs.declared.to_make.ServerToMake.{ServerToMake}
 use Rattle.hurd_core.specs.Core.{attaching, leaving, starting_over}
@@ -183,35 +184,35 @@ module _ (S : ℕ → Bool) (w : World) where
   -- by a task of S
   module _ (co : Coherent w) (t : ℕ) (ours : S t ≡ true) where
     row_reasons : (c : Call) → Reasons S w (row w t c).changes
-    row_reasons (PortDeallocate p) = reasoned _ _ (λ r is. cons tt (both (letting_reasons (open_of r)) settling))
-    row_reasons (DirLookup p path flags mode) = reasoned _ _ (λ l is. lookup_reasons t l.1 _ l.0 (lookup_finds t p path flags mode S w ours l is))
-    row_reasons (IoRead p amount offset) = reasoned _ _ (λ a is. reasoned _ _ (λ d told.
+    row_reasons (Plain (PortDeallocate p)) = reasoned _ _ (λ r is. cons tt (both (letting_reasons (open_of r)) settling))
+    row_reasons (Plain (DirLookup p path flags mode)) = reasoned _ _ (λ l is. lookup_reasons t l.1 _ l.0 (lookup_finds t p path flags mode S w ours l is))
+    row_reasons (Plain (IoRead p amount offset)) = reasoned _ _ (λ a is. reasoned _ _ (λ d told.
         let h = read_handle w t p offset a is in
         let held = subst (λ n. HasOpen S w n READ) h.node (has_open t ours p READ h.handle h.is_handle) in
         both (effect a.node d (λ changes. Drained held (read_drains a.node a.at _ _ d held told (inr changes)))) (moved_all (Reasons S w) none (λ o f. cons tt none) a.offset a.is_stream a.open_name _)))
-    row_reasons (IoWrite p bytes offset) = reasoned _ _ (λ a is. reasoned _ _ (λ d told.
+    row_reasons (Plain (IoWrite p bytes offset)) = reasoned _ _ (λ a is. reasoned _ _ (λ d told.
         let h = write_handle w t p offset a is in
         let held = subst (λ n. HasOpen S w n WRITE) h.node (has_open t ours p WRITE h.handle h.is_handle) in
         both (effect a.node d (λ changes. Written held)) (moved_all (Reasons S w) none (λ o f. cons tt none) a.offset a.is_stream a.open_name _)))
-    row_reasons (FileSetSize p size) = reasoned _ _ (λ m is. reasoned _ _ (λ d told. effect m d (λ changes. Written (set_size_open t ours p m is))))
-    row_reasons (FileChmod p mode) = reasoned _ _ (λ a is. cons (attrs_by (chmod_owns t ours p owns (λ ids b h. h) a is) _ _ _) none)
-    row_reasons (FileChown p owner group) = reasoned _ _ (λ a is. cons (attrs_by (chmod_owns t ours p (gives owner group) (giver_owns owner group) a is) _ _ _) none)
+    row_reasons (Plain (FileSetSize p size)) = reasoned _ _ (λ m is. reasoned _ _ (λ d told. effect m d (λ changes. Written (set_size_open t ours p m is))))
+    row_reasons (Plain (FileChmod p mode)) = reasoned _ _ (λ a is. cons (attrs_by (chmod_owns t ours p owns (λ ids b h. h) a is) _ _ _) none)
+    row_reasons (Plain (FileChown p owner group)) = reasoned _ _ (λ a is. cons (attrs_by (chmod_owns t ours p (gives owner group) (giver_owns owner group) a is) _ _ _) none)
     row_reasons (FileSetTranslator p f words box) = reasoned _ _ (λ a is.
         let own = owner_owns t ours p a (setter t p f w (is_some box) a is) in
         by_bool (λ b. Reasons S w (setting_where b w t f words box a).changes) none (reasoned _ _ (λ old found. reasoned _ _ (λ targets aims. seated_reasons t a f words box old targets own (seat_active w f a old found)))) (sets_nothing f))
-    row_reasons (FileGetTranslatorCntl p) = reasoned _ _ (λ s is. reasoned _ _ (λ x there. AreReasoned (tt, tt)))
-    row_reasons (FileGetcontrol p) = reasoned _ _ (λ s is. reasoned _ _ (λ x there. AreReasoned (tt, tt)))
+    row_reasons (Plain (FileGetTranslatorCntl p)) = reasoned _ _ (λ s is. reasoned _ _ (λ x there. AreReasoned (tt, tt)))
+    row_reasons (Plain (FileGetcontrol p)) = reasoned _ _ (λ s is. reasoned _ _ (λ x there. AreReasoned (tt, tt)))
     row_reasons (FsysStartup m) = reasoned _ _ (λ s is. started_reasons t s m (startup_asks w t m s) (start_held t ours s (starter t w s is)))
-    row_reasons StartFailed = reasoned _ _ (λ s is. cons tt settling)
-    row_reasons (FsysGetroot c dir flags) = reasoned _ _ (λ l is. lookup_reasons t l.1 _ l.0 (root_finds t c dir flags S w ours l is))
-    row_reasons (FsysGoaway c flags) = reasoned _ _ (λ s is. cons (λ n at. SentAway s (goaway_rules t ours c flags s is) at) settling)
-    row_reasons (FsysSetOptions c words) = reasoned _ _ (λ s is. reasoned _ _ (λ a takes. retexting_reasons co t c ours words s a is takes))
-    row_reasons (DirMkdir p name mode) = reasoned _ _ (λ f is. reasoned _ _ (λ m there. cons tt (entries f.dir f.entry (fresh t m.0) (mkdir_enters t ours p name mode f is))))
-    row_reasons (DirMkfile p flags mode) = reasoned _ _ (λ a is. reasoned _ _ (λ m there. cons tt (both (entries a.1.dir a.1.entry (fresh t m.0) (mkfile_enters t ours p mode a is)) (cons tt (cons tt none)))))
-    row_reasons (DirRmdir p name) = reasoned _ _ (λ x is. removing_reasons name x (rmdir_removes t ours p name x is))
-    row_reasons (DirUnlink p name) = reasoned _ _ (λ x is. removing_reasons name x (unlink_removes t ours p name x is))
-    row_reasons (DirLink p name q) = reasoned _ _ (λ a is. let by = link_names t ours p name q a.dir a.file is in reasoned _ _ (λ u links. cons (enter_by by.enters name a.file) (cons (link_by (GetsName by.names)) none)))
-    row_reasons (DirRename p name q new) = reasoned _ _ (λ r is. let by = rename_moves t ours p name q new r.from r.to r.node r.old is in
+    row_reasons (Plain StartFailed) = reasoned _ _ (λ s is. cons tt settling)
+    row_reasons (Plain (FsysGetroot c dir flags)) = reasoned _ _ (λ l is. lookup_reasons t l.1 _ l.0 (root_finds t c dir flags S w ours l is))
+    row_reasons (Plain (FsysGoaway c flags)) = reasoned _ _ (λ s is. cons (λ n at. SentAway s (goaway_rules t ours c flags s is) at) settling)
+    row_reasons (Plain (FsysSetOptions c words)) = reasoned _ _ (λ s is. reasoned _ _ (λ a takes. retexting_reasons co t c ours words s a is takes))
+    row_reasons (Plain (DirMkdir p name mode)) = reasoned _ _ (λ f is. reasoned _ _ (λ m there. cons tt (entries f.dir f.entry (fresh t m.0) (mkdir_enters t ours p name mode f is))))
+    row_reasons (Plain (DirMkfile p flags mode)) = reasoned _ _ (λ a is. reasoned _ _ (λ m there. cons tt (both (entries a.1.dir a.1.entry (fresh t m.0) (mkfile_enters t ours p mode a is)) (cons tt (cons tt none)))))
+    row_reasons (Plain (DirRmdir p name)) = reasoned _ _ (λ x is. removing_reasons name x (rmdir_removes t ours p name x is))
+    row_reasons (Plain (DirUnlink p name)) = reasoned _ _ (λ x is. removing_reasons name x (unlink_removes t ours p name x is))
+    row_reasons (Plain (DirLink p name q)) = reasoned _ _ (λ a is. let by = link_names t ours p name q a.dir a.file is in reasoned _ _ (λ u links. cons (enter_by by.enters name a.file) (cons (link_by (GetsName by.names)) none)))
+    row_reasons (Plain (DirRename p name q new)) = reasoned _ _ (λ r is. let by = rename_moves t ours p name q new r.from r.to r.node r.old is in
         by_option_is (λ o. Reasons S w (renames name new r o)) r.old (λ e. cons (take_by name r.node by.takes) (cons (move_by (takes_node by.takes) r.to) (cons (enter_by by.comes new r.node) settling)))
         (λ m e. by_bool_is (λ b. Reasons S w (if b then [] else EditBody r.to (without_entry new) ∷ EditHeader m unlinked ∷ moves name new r)) (same_name m r.node) (λ same. none)
         (λ apart. cons (take_by new m (by.gives m e apart)) (cons (unlink_by (takes_node (by.gives m e apart))) (cons (take_by name r.node by.takes) (cons (move_by (takes_node by.takes) r.to) (cons (enter_by by.comes new r.node) settling)))))))

@@ -3,7 +3,8 @@ use Rattle.std.specs.Prelude.{◌≡◌, ◌⊎◌, ℕ, true, false}
 use Rattle.hurd_creds.specs.declared.errno.Errno.TheVariants.{ENOMEM}
 pub use Rattle.hurd_machine.specs.Calls.{lacks_memory}
 use Rattle.hurd_machine.specs.Calls.{Call, Reply, box_in, refusal}
-use Rattle.hurd_machine.specs.declared.call.Call.TheVariants.{DirLookup, FileSetTranslator, FsysStartup}
+use Rattle.hurd_machine.specs.declared.call.Call.TheVariants.{Plain, FileSetTranslator, FsysStartup}
+use Rattle.hurd_machine.specs.declared.call.PlainCall.TheVariants.{DirLookup}
 use Rattle.hurd_machine.specs.World.{World}
 use Rattle.hurd_machine.specs.Plan.{is_refused}
 use Rattle.hurd_lookup.specs.Seeking.{LookupLacks}
@@ -13,7 +14,7 @@ use Rattle.hurd_laws.specs.Step.{NeedsNone, reply_of, takes_memory, step}
 
 -- a call that brings a box that aims at targets, where these are to be found; or a lookup that comes to a translator that waits, whose words have targets
 abbrev pub FindsTargets : World → ℕ → Call → Type 0
-FindsTargets w t (DirLookup p path flags mode) = LookupLacks w t p path flags mode
+FindsTargets w t (Plain (DirLookup p path flags mode)) = LookupLacks w t p path flags mode
 FindsTargets w t (FileSetTranslator p setting words box) = SetLacks w t p setting box
 FindsTargets w t (FsysStartup box) = StartLacks w t box
 FindsTargets w t _ = ⊥

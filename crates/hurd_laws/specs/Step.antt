@@ -2,7 +2,8 @@
 use Rattle.std.specs.Prelude.{ℕ, Bool, true, false, is_some}
 use Rattle.hurd_trans_iface.specs.Nodes.{has_words}
 use Rattle.hurd_machine.specs.Calls.{Call, Reply, box_in}
-use Rattle.hurd_machine.specs.declared.call.Call.TheVariants.{PortDeallocate, PortSend, PortReceive, AuthMakeauth, DirLookup, IoRead, IoWrite, IoSeek, IoStat, IoReadable, IoGetOpenmodes, IoSetAllOpenmodes, IoDuplicate, IoReauthenticate, IoRestrictAuth, IoIdentity, FileSetSize, FileChmod, FileChown, FileCheckAccess, FileSetTranslator, FileGetTranslator, FileGetTranslatorCntl, FileGetcontrol, FsysStartup, StartFailed, FsysGetroot, FsysGoaway, FsysGetOptions, FsysSetOptions, DirReaddir, DirMkdir, DirRmdir, DirUnlink, DirLink, DirMkfile, DirRename}
+use Rattle.hurd_machine.specs.declared.call.Call.TheVariants.{Plain, FileSetTranslator, FsysStartup}
+use Rattle.hurd_machine.specs.declared.call.PlainCall.TheVariants.{PortDeallocate, PortSend, PortReceive, AuthMakeauth, DirLookup, IoRead, IoWrite, IoSeek, IoStat, IoReadable, IoGetOpenmodes, IoSetAllOpenmodes, IoDuplicate, IoReauthenticate, IoRestrictAuth, IoIdentity, FileSetSize, FileChmod, FileChown, FileCheckAccess, FileGetTranslator, FileGetTranslatorCntl, FileGetcontrol, StartFailed, FsysGetroot, FsysGoaway, FsysGetOptions, FsysSetOptions, DirReaddir, DirMkdir, DirRmdir, DirUnlink, DirLink, DirMkfile, DirRename}
 use Rattle.hurd_machine.specs.World.{World}
 use Rattle.hurd_machine.specs.Plan.{Plan, after_plan, returning}
 use Rattle.hurd_machine.specs.Sight.{Part}
@@ -49,43 +50,43 @@ sparing free plan touches = record { plan = plan; touches = touches; takes = tru
 
 -- the row of a call of task t; it answers ESRCH where there is no such task, and a refused call touches nothing
 abbrev pub row_of : World → ℕ → Call → Row
-row_of w t (PortDeallocate p) = calm (plan_deallocate w t p) (touches_deallocate w t p)
-row_of w t (PortSend p q) = taking (plan_send w t p q.0) (touches_send w t p q.0)
-row_of w t PortReceive = taking (plan_receive w t) (touches_receive w t)
-row_of w t (AuthMakeauth ids) = calm (plan_makeauth w t ids) (touches_makeauth w t ids)
-row_of w t (DirLookup p path flags mode) = taking (plan_lookup w t p path flags mode) (touches_lookup w t p path flags mode)
-row_of w t (IoRead p amount offset) = sparing (free_read w t p amount offset) (plan_read w t p amount offset) (touches_read w t p amount offset)
-row_of w t (IoWrite p bytes offset) = sparing (free_write w t p bytes offset) (plan_write w t p bytes offset) (touches_write w t p bytes offset)
-row_of w t (IoSeek p offset whence) = calm (plan_seek w t p offset whence) (touches_seek w t p offset whence)
-row_of w t (IoStat p) = calm (plan_stat w t p) (touches_stat w t p)
-row_of w t (IoReadable p) = calm (plan_readable w t p) (touches_readable w t p)
-row_of w t (IoGetOpenmodes p) = calm (plan_get_openmodes w t p) (touches_get_openmodes w t p)
-row_of w t (IoSetAllOpenmodes p flags) = calm (plan_set_openmodes w t p flags) (touches_set_openmodes w t p flags)
-row_of w t (IoDuplicate p) = taking (plan_duplicate w t p) (touches_share w t p)
-row_of w t (IoReauthenticate p) = taking (plan_reauthenticate w t p) (touches_share w t p)
-row_of w t (IoRestrictAuth p ids) = taking (plan_restrict_auth w t p ids) (touches_share w t p)
-row_of w t (IoIdentity p q) = calm (plan_identity w t p q) (touches_identity w t p q)
-row_of w t (FileSetSize p size) = sparing (free_set_size w t p size) (plan_set_size w t p size) (touches_set_size w t p size)
-row_of w t (FileChmod p mode) = calm (plan_chmod w t p mode) (touches_chmod w t p mode)
-row_of w t (FileChown p owner group) = calm (plan_chown w t p owner group) (touches_chown w t p owner group)
-row_of w t (FileCheckAccess p) = calm (plan_check_access w t p) (touches_check_access w t p)
+row_of w t (Plain (PortDeallocate p)) = calm (plan_deallocate w t p) (touches_deallocate w t p)
+row_of w t (Plain (PortSend p q)) = taking (plan_send w t p q.0) (touches_send w t p q.0)
+row_of w t (Plain PortReceive) = taking (plan_receive w t) (touches_receive w t)
+row_of w t (Plain (AuthMakeauth ids)) = calm (plan_makeauth w t ids) (touches_makeauth w t ids)
+row_of w t (Plain (DirLookup p path flags mode)) = taking (plan_lookup w t p path flags mode) (touches_lookup w t p path flags mode)
+row_of w t (Plain (IoRead p amount offset)) = sparing (free_read w t p amount offset) (plan_read w t p amount offset) (touches_read w t p amount offset)
+row_of w t (Plain (IoWrite p bytes offset)) = sparing (free_write w t p bytes offset) (plan_write w t p bytes offset) (touches_write w t p bytes offset)
+row_of w t (Plain (IoSeek p offset whence)) = calm (plan_seek w t p offset whence) (touches_seek w t p offset whence)
+row_of w t (Plain (IoStat p)) = calm (plan_stat w t p) (touches_stat w t p)
+row_of w t (Plain (IoReadable p)) = calm (plan_readable w t p) (touches_readable w t p)
+row_of w t (Plain (IoGetOpenmodes p)) = calm (plan_get_openmodes w t p) (touches_get_openmodes w t p)
+row_of w t (Plain (IoSetAllOpenmodes p flags)) = calm (plan_set_openmodes w t p flags) (touches_set_openmodes w t p flags)
+row_of w t (Plain (IoDuplicate p)) = taking (plan_duplicate w t p) (touches_share w t p)
+row_of w t (Plain (IoReauthenticate p)) = taking (plan_reauthenticate w t p) (touches_share w t p)
+row_of w t (Plain (IoRestrictAuth p ids)) = taking (plan_restrict_auth w t p ids) (touches_share w t p)
+row_of w t (Plain (IoIdentity p q)) = calm (plan_identity w t p q) (touches_identity w t p q)
+row_of w t (Plain (FileSetSize p size)) = sparing (free_set_size w t p size) (plan_set_size w t p size) (touches_set_size w t p size)
+row_of w t (Plain (FileChmod p mode)) = calm (plan_chmod w t p mode) (touches_chmod w t p mode)
+row_of w t (Plain (FileChown p owner group)) = calm (plan_chown w t p owner group) (touches_chown w t p owner group)
+row_of w t (Plain (FileCheckAccess p)) = calm (plan_check_access w t p) (touches_check_access w t p)
 row_of w t (FileSetTranslator p setting words server) = taking_if (is_some server) (plan_set_translator w t p setting words server) (touches_set_translator w t p setting server)
-row_of w t (FileGetTranslator p) = taking (plan_get_translator w t p) (touches_get_translator w t p)
-row_of w t (FileGetTranslatorCntl p) = taking (plan_cntl w t p) (touches_cntl w t p)
-row_of w t (FileGetcontrol p) = taking (plan_getcontrol w t p) (touches_getcontrol w t p)
+row_of w t (Plain (FileGetTranslator p)) = taking (plan_get_translator w t p) (touches_get_translator w t p)
+row_of w t (Plain (FileGetTranslatorCntl p)) = taking (plan_cntl w t p) (touches_cntl w t p)
+row_of w t (Plain (FileGetcontrol p)) = taking (plan_getcontrol w t p) (touches_getcontrol w t p)
 row_of w t (FsysStartup server) = taking (plan_startup w t server) (touches_startup w t server)
-row_of w t StartFailed = calm (plan_start_failed w t) (touches_start_failed w t)
-row_of w t (FsysGetroot c dir flags) = taking (plan_getroot w t c dir flags) (touches_getroot w t c dir flags)
-row_of w t (FsysGoaway c flags) = calm (plan_goaway w t c flags) (touches_goaway w t c flags)
-row_of w t (FsysGetOptions c) = taking (plan_get_options w t c) (touches_get_options w t c)
-row_of w t (FsysSetOptions c words) = taking_if (has_words words) (plan_set_options w t c words) (touches_set_options w t c words)
-row_of w t (DirReaddir p) = taking (plan_readdir w t p) (touches_readdir w t p)
-row_of w t (DirMkdir p name mode) = taking (plan_mkdir w t p name mode) (touches_mkdir w t p name mode)
-row_of w t (DirMkfile p flags mode) = taking (plan_mkfile w t p flags mode) (touches_mkfile w t p flags mode)
-row_of w t (DirRmdir p name) = calm (plan_rmdir w t p name) (touches_rmdir w t p name)
-row_of w t (DirUnlink p name) = calm (plan_unlink w t p name) (touches_unlink w t p name)
-row_of w t (DirLink p name q) = taking (plan_link w t p name q) (touches_link w t p name q)
-row_of w t (DirRename p name q new) = taking (plan_rename w t p name q new) (touches_rename w t p name q new)
+row_of w t (Plain StartFailed) = calm (plan_start_failed w t) (touches_start_failed w t)
+row_of w t (Plain (FsysGetroot c dir flags)) = taking (plan_getroot w t c dir flags) (touches_getroot w t c dir flags)
+row_of w t (Plain (FsysGoaway c flags)) = calm (plan_goaway w t c flags) (touches_goaway w t c flags)
+row_of w t (Plain (FsysGetOptions c)) = taking (plan_get_options w t c) (touches_get_options w t c)
+row_of w t (Plain (FsysSetOptions c words)) = taking_if (has_words words) (plan_set_options w t c words) (touches_set_options w t c words)
+row_of w t (Plain (DirReaddir p)) = taking (plan_readdir w t p) (touches_readdir w t p)
+row_of w t (Plain (DirMkdir p name mode)) = taking (plan_mkdir w t p name mode) (touches_mkdir w t p name mode)
+row_of w t (Plain (DirMkfile p flags mode)) = taking (plan_mkfile w t p flags mode) (touches_mkfile w t p flags mode)
+row_of w t (Plain (DirRmdir p name)) = calm (plan_rmdir w t p name) (touches_rmdir w t p name)
+row_of w t (Plain (DirUnlink p name)) = calm (plan_unlink w t p name) (touches_unlink w t p name)
+row_of w t (Plain (DirLink p name q)) = taking (plan_link w t p name q) (touches_link w t p name q)
+row_of w t (Plain (DirRename p name q new)) = taking (plan_rename w t p name q new) (touches_rename w t p name q new)
 
 abbrev pub row : World → ℕ → Call → Plan
 row w t c = (row_of w t c).plan

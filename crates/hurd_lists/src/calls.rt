@@ -12,7 +12,7 @@ use crate::arguments::{
 };
 use crate::verb::Verb;
 use hurd_creds::Bytes;
-use hurd_machine::{Call, Setting};
+use hurd_machine::{Call, PlainCall, Setting};
 use hurd_trans_iface::{Server, Words, words_ok};
 use hurd_words::fault::ReadFault;
 use std::alloc::Global;
@@ -58,7 +58,7 @@ fn port_send<S: Server>(args: &[Bytes]) -> Result<Call<S>, ReadFault>
     };
     let port = long_number(port.as_slice())?;
     let to = task(to.as_slice())?;
-    Ok(Call::PortSend { port, to })
+    Ok(Call::Plain(PlainCall::PortSend { port, to }))
 }
 
 /// No argument.
@@ -66,7 +66,7 @@ fn port_receive<S: Server>(args: &[Bytes]) -> Result<Call<S>, ReadFault>
     ensures { Finds (λ c. call_by S.meaning c) (port_receive args.now) result }
 {
     if args.is_empty() {
-        Ok(Call::PortReceive)
+        Ok(Call::Plain(PlainCall::PortReceive))
     } else {
         Err(ReadFault::Bad)
     }
@@ -77,7 +77,7 @@ fn start_failed<S: Server>(args: &[Bytes]) -> Result<Call<S>, ReadFault>
     ensures { Finds (λ c. call_by S.meaning c) (start_failed args.now) result }
 {
     if args.is_empty() {
-        Ok(Call::StartFailed)
+        Ok(Call::Plain(PlainCall::StartFailed))
     } else {
         Err(ReadFault::Bad)
     }
@@ -91,7 +91,7 @@ fn auth_makeauth<S: Server>(alloc: Global, args: &[Bytes]) -> Result<Call<S>, Re
         return Err(ReadFault::Bad);
     };
     let ids = ids(alloc, uids.as_slice(), gids.as_slice())?;
-    Ok(Call::AuthMakeauth { ids })
+    Ok(Call::Plain(PlainCall::AuthMakeauth { ids }))
 }
 
 /// `PORT AMOUNT OFFSET`.
@@ -104,11 +104,11 @@ fn io_read<S: Server>(args: &[Bytes]) -> Result<Call<S>, ReadFault>
     let port = long_number(port.as_slice())?;
     let amount = long_number(amount.as_slice())?;
     let offset = offset(at.as_slice())?;
-    Ok(Call::IoRead {
+    Ok(Call::Plain(PlainCall::IoRead {
         port,
         amount,
         offset,
-    })
+    }))
 }
 
 /// `PORT =BYTES OFFSET`.
@@ -121,11 +121,11 @@ fn io_write<S: Server>(alloc: Global, args: &[Bytes]) -> Result<Call<S>, ReadFau
     let port = long_number(port.as_slice())?;
     let bytes = bytes(alloc, word.as_slice())?;
     let offset = offset(at.as_slice())?;
-    Ok(Call::IoWrite {
+    Ok(Call::Plain(PlainCall::IoWrite {
         port,
         bytes,
         offset,
-    })
+    }))
 }
 
 /// `PORT OFFSET WHENCE`.
@@ -138,11 +138,11 @@ fn io_seek<S: Server>(args: &[Bytes]) -> Result<Call<S>, ReadFault>
     let port = long_number(port.as_slice())?;
     let offset = offset(at.as_slice())?;
     let whence = whence(from.as_slice())?;
-    Ok(Call::IoSeek {
+    Ok(Call::Plain(PlainCall::IoSeek {
         port,
         offset,
         whence,
-    })
+    }))
 }
 
 /// `PORT FLAGS`.
@@ -154,7 +154,7 @@ fn io_set_all_openmodes<S: Server>(alloc: Global, args: &[Bytes]) -> Result<Call
     };
     let port = long_number(port.as_slice())?;
     let flags = open_flags(alloc, names.as_slice())?;
-    Ok(Call::IoSetAllOpenmodes { port, flags })
+    Ok(Call::Plain(PlainCall::IoSetAllOpenmodes { port, flags }))
 }
 
 /// `PORT UIDS GIDS`.
@@ -166,7 +166,7 @@ fn io_restrict_auth<S: Server>(alloc: Global, args: &[Bytes]) -> Result<Call<S>,
     };
     let port = long_number(port.as_slice())?;
     let ids = ids(alloc, uids.as_slice(), gids.as_slice())?;
-    Ok(Call::IoRestrictAuth { port, ids })
+    Ok(Call::Plain(PlainCall::IoRestrictAuth { port, ids }))
 }
 
 /// `PORT MODE`.
@@ -178,7 +178,7 @@ fn file_chmod<S: Server>(args: &[Bytes]) -> Result<Call<S>, ReadFault>
     };
     let port = long_number(port.as_slice())?;
     let mode = mode(digits.as_slice())?;
-    Ok(Call::FileChmod { port, mode })
+    Ok(Call::Plain(PlainCall::FileChmod { port, mode }))
 }
 
 /// `PORT OWNER GROUP`.
@@ -191,7 +191,7 @@ fn file_chown<S: Server>(args: &[Bytes]) -> Result<Call<S>, ReadFault>
     let port = long_number(port.as_slice())?;
     let owner = number(owner.as_slice())?;
     let group = number(group.as_slice())?;
-    Ok(Call::FileChown { port, owner, group })
+    Ok(Call::Plain(PlainCall::FileChown { port, owner, group }))
 }
 
 /// `DIR =PATH FLAGS MODE`.
@@ -205,12 +205,12 @@ fn dir_lookup<S: Server>(alloc: Global, args: &[Bytes]) -> Result<Call<S>, ReadF
     let path = bytes(alloc, word.as_slice())?;
     let flags = open_flags(alloc, names.as_slice())?;
     let mode = mode(digits.as_slice())?;
-    Ok(Call::DirLookup {
+    Ok(Call::Plain(PlainCall::DirLookup {
         dir,
         path,
         flags,
         mode,
-    })
+    }))
 }
 
 /// `DIR =NAME MODE`.
@@ -223,7 +223,7 @@ fn dir_mkdir<S: Server>(alloc: Global, args: &[Bytes]) -> Result<Call<S>, ReadFa
     let dir = long_number(dir.as_slice())?;
     let name = bytes(alloc, word.as_slice())?;
     let mode = mode(digits.as_slice())?;
-    Ok(Call::DirMkdir { dir, name, mode })
+    Ok(Call::Plain(PlainCall::DirMkdir { dir, name, mode }))
 }
 
 /// `DIR FLAGS MODE`.
@@ -236,7 +236,7 @@ fn dir_mkfile<S: Server>(alloc: Global, args: &[Bytes]) -> Result<Call<S>, ReadF
     let dir = long_number(dir.as_slice())?;
     let flags = open_flags(alloc, names.as_slice())?;
     let mode = mode(digits.as_slice())?;
-    Ok(Call::DirMkfile { dir, flags, mode })
+    Ok(Call::Plain(PlainCall::DirMkfile { dir, flags, mode }))
 }
 
 /// `DIR =NAME`, an empty directory.
@@ -244,7 +244,7 @@ fn dir_rmdir<S: Server>(alloc: Global, args: &[Bytes]) -> Result<Call<S>, ReadFa
     ensures { Reads (λ c. call_by S.meaning c) (dir_rmdir args.now) result }
 {
     let (dir, name) = entry(alloc, args)?;
-    Ok(Call::DirRmdir { dir, name })
+    Ok(Call::Plain(PlainCall::DirRmdir { dir, name }))
 }
 
 /// `DIR =NAME`, a file.
@@ -252,7 +252,7 @@ fn dir_unlink<S: Server>(alloc: Global, args: &[Bytes]) -> Result<Call<S>, ReadF
     ensures { Reads (λ c. call_by S.meaning c) (dir_unlink args.now) result }
 {
     let (dir, name) = entry(alloc, args)?;
-    Ok(Call::DirUnlink { dir, name })
+    Ok(Call::Plain(PlainCall::DirUnlink { dir, name }))
 }
 
 /// `DIR =NAME FILEPORT`.
@@ -265,7 +265,7 @@ fn dir_link<S: Server>(alloc: Global, args: &[Bytes]) -> Result<Call<S>, ReadFau
     let dir = long_number(dir.as_slice())?;
     let name = bytes(alloc, word.as_slice())?;
     let file = long_number(file.as_slice())?;
-    Ok(Call::DirLink { dir, name, file })
+    Ok(Call::Plain(PlainCall::DirLink { dir, name, file }))
 }
 
 /// `DIR =NAME DIR2 =NEW`.
@@ -279,7 +279,7 @@ fn dir_rename<S: Server>(alloc: Global, args: &[Bytes]) -> Result<Call<S>, ReadF
     let name = bytes(alloc, word.as_slice())?;
     let to = long_number(to.as_slice())?;
     let new = bytes(alloc, new.as_slice())?;
-    Ok(Call::DirRename { dir, name, to, new })
+    Ok(Call::Plain(PlainCall::DirRename { dir, name, to, new }))
 }
 
 /// `PORT PORT`.
@@ -287,7 +287,7 @@ fn io_identity<S: Server>(args: &[Bytes]) -> Result<Call<S>, ReadFault>
     ensures { Finds (λ c. call_by S.meaning c) (io_identity args.now) result }
 {
     let (port, other) = pair(args)?;
-    Ok(Call::IoIdentity { port, other })
+    Ok(Call::Plain(PlainCall::IoIdentity { port, other }))
 }
 
 /// `PORT SIZE`.
@@ -295,7 +295,7 @@ fn file_set_size<S: Server>(args: &[Bytes]) -> Result<Call<S>, ReadFault>
     ensures { Finds (λ c. call_by S.meaning c) (file_set_size args.now) result }
 {
     let (port, size) = pair(args)?;
-    Ok(Call::FileSetSize { port, size })
+    Ok(Call::Plain(PlainCall::FileSetSize { port, size }))
 }
 
 /// Where the word `box` stands first.
@@ -370,7 +370,7 @@ fn fsys_startup<S: Server>(args: &[Bytes]) -> Result<Call<S>, ReadFault>
         return Err(ReadFault::Bad);
     };
     if word.is(b"box") {
-        Ok(Call::StartFailed)
+        Ok(Call::Plain(PlainCall::StartFailed))
     } else {
         Err(ReadFault::Bad)
     }
@@ -386,11 +386,11 @@ fn fsys_getroot<S: Server>(alloc: Global, args: &[Bytes]) -> Result<Call<S>, Rea
     let control = long_number(control.as_slice())?;
     let dir = long_number(dir.as_slice())?;
     let flags = open_flags(alloc, names.as_slice())?;
-    Ok(Call::FsysGetroot {
+    Ok(Call::Plain(PlainCall::FsysGetroot {
         control,
         dir,
         flags,
-    })
+    }))
 }
 
 /// `CONTROL GOAWAY`.
@@ -402,7 +402,7 @@ fn fsys_goaway<S: Server>(alloc: Global, args: &[Bytes]) -> Result<Call<S>, Read
     };
     let control = long_number(control.as_slice())?;
     let flags = goaway_flags(alloc, names.as_slice())?;
-    Ok(Call::FsysGoaway { control, flags })
+    Ok(Call::Plain(PlainCall::FsysGoaway { control, flags }))
 }
 
 /// `CONTROL [=WORD ..]`.
@@ -414,7 +414,7 @@ fn fsys_set_options<S: Server>(alloc: Global, args: &[Bytes]) -> Result<Call<S>,
     };
     let control = long_number(control.as_slice())?;
     let words = server_words(alloc, words)?;
-    Ok(Call::FsysSetOptions { control, words })
+    Ok(Call::Plain(PlainCall::FsysSetOptions { control, words }))
 }
 
 /// The call of a name with these arguments, without a server that it may bring.
@@ -422,39 +422,45 @@ pub fn call_of<S: Server>(alloc: Global, verb: Verb, args: &[Bytes]) -> Result<C
     ensures { Reads (λ c. call_by S.meaning c) (call_of verb args.now) result }
 {
     match verb {
-        Verb::PortDeallocate => Ok(Call::PortDeallocate { port: lone(args)? }),
+        Verb::PortDeallocate => Ok(Call::Plain(PlainCall::PortDeallocate { port: lone(args)? })),
         Verb::PortSend => port_send(args),
         Verb::PortReceive => port_receive(args),
         Verb::AuthMakeauth => auth_makeauth(alloc, args),
         Verb::IoRead => io_read(args),
         Verb::IoWrite => io_write(alloc, args),
         Verb::IoSeek => io_seek(args),
-        Verb::IoStat => Ok(Call::IoStat { port: lone(args)? }),
-        Verb::IoReadable => Ok(Call::IoReadable { port: lone(args)? }),
-        Verb::IoGetOpenmodes => Ok(Call::IoGetOpenmodes { port: lone(args)? }),
+        Verb::IoStat => Ok(Call::Plain(PlainCall::IoStat { port: lone(args)? })),
+        Verb::IoReadable => Ok(Call::Plain(PlainCall::IoReadable { port: lone(args)? })),
+        Verb::IoGetOpenmodes => Ok(Call::Plain(PlainCall::IoGetOpenmodes { port: lone(args)? })),
         Verb::IoSetAllOpenmodes => io_set_all_openmodes(alloc, args),
-        Verb::IoDuplicate => Ok(Call::IoDuplicate { port: lone(args)? }),
-        Verb::IoReauthenticate => Ok(Call::IoReauthenticate { port: lone(args)? }),
+        Verb::IoDuplicate => Ok(Call::Plain(PlainCall::IoDuplicate { port: lone(args)? })),
+        Verb::IoReauthenticate => Ok(Call::Plain(PlainCall::IoReauthenticate {
+            port: lone(args)?,
+        })),
         Verb::IoRestrictAuth => io_restrict_auth(alloc, args),
         Verb::IoIdentity => io_identity(args),
         Verb::FileChmod => file_chmod(args),
         Verb::FileChown => file_chown(args),
         Verb::FileSetSize => file_set_size(args),
-        Verb::FileCheckAccess => Ok(Call::FileCheckAccess { port: lone(args)? }),
+        Verb::FileCheckAccess => Ok(Call::Plain(PlainCall::FileCheckAccess { port: lone(args)? })),
         Verb::FileSetTranslator => file_set_translator(alloc, args),
-        Verb::FileGetTranslator => Ok(Call::FileGetTranslator { port: lone(args)? }),
-        Verb::FileGetTranslatorCntl => Ok(Call::FileGetTranslatorCntl { port: lone(args)? }),
-        Verb::FileGetcontrol => Ok(Call::FileGetcontrol { port: lone(args)? }),
+        Verb::FileGetTranslator => Ok(Call::Plain(PlainCall::FileGetTranslator {
+            port: lone(args)?,
+        })),
+        Verb::FileGetTranslatorCntl => Ok(Call::Plain(PlainCall::FileGetTranslatorCntl {
+            port: lone(args)?,
+        })),
+        Verb::FileGetcontrol => Ok(Call::Plain(PlainCall::FileGetcontrol { port: lone(args)? })),
         Verb::FsysStartup => fsys_startup(args),
         Verb::StartFailed => start_failed(args),
         Verb::FsysGetroot => fsys_getroot(alloc, args),
         Verb::FsysGoaway => fsys_goaway(alloc, args),
-        Verb::FsysGetOptions => Ok(Call::FsysGetOptions {
+        Verb::FsysGetOptions => Ok(Call::Plain(PlainCall::FsysGetOptions {
             control: lone(args)?,
-        }),
+        })),
         Verb::FsysSetOptions => fsys_set_options(alloc, args),
         Verb::DirLookup => dir_lookup(alloc, args),
-        Verb::DirReaddir => Ok(Call::DirReaddir { port: lone(args)? }),
+        Verb::DirReaddir => Ok(Call::Plain(PlainCall::DirReaddir { port: lone(args)? })),
         Verb::DirMkdir => dir_mkdir(alloc, args),
         Verb::DirMkfile => dir_mkfile(alloc, args),
         Verb::DirRmdir => dir_rmdir(alloc, args),
@@ -495,7 +501,7 @@ fn started<S>(server: Option<S>) -> Call<S>
 {
     match server {
         Some(server) => Call::FsysStartup { server },
-        None => Call::StartFailed,
+        None => Call::Plain(PlainCall::StartFailed),
     }
 }
 
@@ -517,7 +523,7 @@ pub fn with_server<S: Server>(call: Call<S>, server: Option<S>) -> Call<S>
             server,
         },
         Call::FsysStartup { server: _ } => started(server),
-        Call::StartFailed => started(server),
+        Call::Plain(PlainCall::StartFailed) => started(server),
         call => call,
     }
 }

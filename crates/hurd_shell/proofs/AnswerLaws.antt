@@ -4,7 +4,8 @@ use Rattle.hurd_creds.specs.declared.errno.Errno.{Errno}
 use Rattle.hurd_creds.specs.declared.errno.Errno.TheVariants.{ENOENT}
 use Rattle.hurd_trans_iface.specs.Meaning.{Meaning, Begins}
 use Rattle.hurd_machine.specs.Calls.{BringsBegun, Call, box_in, call_by}
-use Rattle.hurd_machine.specs.declared.call.Call.TheVariants.{StartFailed}
+use Rattle.hurd_machine.specs.declared.call.Call.TheVariants.{Plain}
+use Rattle.hurd_machine.specs.declared.call.PlainCall.TheVariants.{StartFailed}
 use Rattle.hurd_world.specs.Noting.{State}
 use Rattle.hurd_shell.specs.declared.fault.Stop.TheVariants.{Refused}
 use Rattle.hurd_shell.specs.declared.entries.EntryWork.{EntryWork}
@@ -44,7 +45,7 @@ pub refused : {A : Type 0} (t : ℕ) (e : Errno) (w : State) → Does {A = A} t 
 refused t e w = record { ends = leads_refl _ _ _ }
 
 -- a start was given up
-start_given_up : {t : ℕ} {w x : State} (u : Unit {0}) → Does t (made StartFailed unread) w (Ok u) x → Does t (start_with None) w (Err (Refused ENOENT)) x
+start_given_up : {t : ℕ} {w x : State} (u : Unit {0}) → Does t (made (Plain StartFailed) unread) w (Ok u) x → Does t (start_with None) w (Err (Refused ENOENT)) x
 start_given_up u d = does_ok {r = Err (Refused ENOENT)} (λ v. gives (Err ENOENT)) d (refused _ _ _)
 
 -- the stages where a translator is started
@@ -53,7 +54,7 @@ Starts s = ((o : Opening) × (deed : Work) × (s ≡ stage.Opens o deed))
     ⊎ ((port : ℕ) × (o : Opening) × (name : List ℕ) × (deed : EntryWork) × (s ≡ stage.Enters port o name deed))
 
 -- the start of a stage was given up
-pub without_start : {t : ℕ} {w x : State} (s : Stage) (words : List (List ℕ)) → Starts s → (u : Unit {0}) → Does t (made StartFailed unread) w (Ok u) x
+pub without_start : {t : ℕ} {w x : State} (s : Stage) (words : List (List ℕ)) → Starts s → (u : Unit {0}) → Does t (made (Plain StartFailed) unread) w (Ok u) x
     → Does t (answer_with s words None) w (Err (Refused ENOENT)) x
 without_start (stage.Opens o deed) words starts u d = start_given_up u d
 without_start (stage.Enters port o name deed) words starts u d = start_given_up u d

@@ -3,7 +3,8 @@ use Rattle.std.proofs.Common.{◌≡◌, ◌≤◌, ◌<◌, inl, inr, ℕ, zero
 use Rattle.std.proofs.lemmas.Bool.Decides.{eqb_tells}
 use Rattle.hurd_creds.specs.declared.errno.Errno.{Errno}
 use Rattle.hurd_creds.specs.Limits.{most_read}
-use Rattle.hurd_machine.specs.declared.call.Call.TheVariants.{FsysSetOptions, IoRead}
+use Rattle.hurd_machine.specs.declared.call.Call.TheVariants.{Plain}
+use Rattle.hurd_machine.specs.declared.call.PlainCall.TheVariants.{FsysSetOptions, IoRead}
 use Rattle.hurd_world.specs.Noting.{State}
 use Rattle.hurd_trans_iface.specs.Nodes.{has_words}
 use Rattle.hurd_shell.specs.Programs.{Prog, gives, made, data_of, done_of}
@@ -16,7 +17,7 @@ sub_one n = omega arith
 
 -- a read
 abbrev pub reading : ℕ → Prog (List ℕ)
-reading p = made (IoRead p most_read at_cursor) data_of
+reading p = made (Plain (IoRead p most_read at_cursor)) data_of
 
 cat_turn : {t : ℕ} {w x : State} (reads p : ℕ) (output : List ℕ) (r : Result (List ℕ) Errno) → 0 < reads → Leads t (reading p) w (gives r) x
     → Leads t (cat_from reads p output) w (cat_read output (cat_from (reads - 1) p) r) x
@@ -51,7 +52,7 @@ pub cat_err : {t : ℕ} {w x : State} (reads p : ℕ) (output : List ℕ) (e : E
 cat_err reads p output e some l = cat_turn reads p output (Err e) some l
 
 -- with words, they are given to the server
-pub options_given : (words : List (List ℕ)) (c : ℕ) → has_words words ≡ true → options words c ≡ silent (made (FsysSetOptions c words) done_of)
+pub options_given : (words : List (List ℕ)) (c : ℕ) → has_words words ≡ true → options words c ≡ silent (made (Plain (FsysSetOptions c words)) done_of)
 options_given [] c some = absurd (cc)
 options_given (w ∷ ws) c some = refl
 

@@ -4,7 +4,8 @@ use Rattle.std.specs.Result.{IsErr, IsErrAnd}
 use Rattle.hurd_creds.specs.declared.errno.Errno.{Errno}
 use Rattle.hurd_creds.specs.declared.open_flags.OpenFlags.{OpenFlags}
 use Rattle.hurd_trans_iface.specs.Meaning.{Meaning}
-use Rattle.hurd_machine.specs.declared.call.Call.TheVariants.{IoReauthenticate, PortDeallocate}
+use Rattle.hurd_machine.specs.declared.call.Call.TheVariants.{Plain}
+use Rattle.hurd_machine.specs.declared.call.PlainCall.TheVariants.{IoReauthenticate, PortDeallocate}
 use Rattle.hurd_world.specs.Noting.{State}
 use Rattle.hurd_shell.specs.declared.fault.Stop.{Stop}
 use Rattle.hurd_shell.specs.declared.fault.Stop.TheVariants.{Refused, Memory}
@@ -102,20 +103,20 @@ unfolding look
 last_err flags dir name held gone d = held_err held (arrived too_many not_started) gone d
 
 -- a retry's port was reauthenticated
-pub reauth_leads : {t : ℕ} {w x : State} (opener : Opener) (name held : List ℕ) (port own : ℕ) → Does t (made (IoReauthenticate port) port_of) w (Ok own) x
+pub reauth_leads : {t : ℕ} {w x : State} (opener : Opener) (name held : List ℕ) (port own : ℕ) → Does t (made (Plain (IoReauthenticate port)) port_of) w (Ok own) x
     → Leads t (releasing held (followed opener (Reauth name port))) w (releasing ((held ++ port ∷ []) ++ own ∷ []) (opener own name)) x
 reauth_leads opener name held port own d =
     let more = λ (q : ℕ). closing q (opener q name) in
-    rw (releasing_more (held ++ port ∷ []) own (opener own name), ← releasing_more held port (bind (made (IoReauthenticate port) port_of) more))
+    rw (releasing_more (held ++ port ∷ []) own (opener own name), ← releasing_more held port (bind (made (Plain (IoReauthenticate port)) port_of) more))
     (held_ok (held ++ port ∷ []) more d)
 
 -- a retry's port was not reauthenticated
 pub reauth_err : {B : Type 0} {t : ℕ} {s : Stop} {r : Result B Stop} {w x : State} {next : B → Prog ℕ} (opener : Opener) (name held : List ℕ) (port : ℕ)
-    → IsErr r × IsErrAnd r (λ e. e ≡ s) → Does t (made (IoReauthenticate port) port_of) w (Err s) x
+    → IsErr r × IsErrAnd r (λ e. e ≡ s) → Does t (made (Plain (IoReauthenticate port)) port_of) w (Err s) x
     → Comes t (releasing held (followed opener (Reauth name port))) w next (held ++ port ∷ []) r x
 reauth_err opener name held port gone d =
     let more = λ (q : ℕ). closing q (opener q name) in
-    rw (← releasing_more held port (bind (made (IoReauthenticate port) port_of) more)) (held_err (held ++ port ∷ []) more gone d)
+    rw (← releasing_more held port (bind (made (Plain (IoReauthenticate port)) port_of) more)) (held_err (held ++ port ∷ []) more gone d)
 
 sub_one : (n : ℕ) → suc n - 1 ≡ n
 sub_one n = omega arith
@@ -131,7 +132,7 @@ pub left_none : (left : ℕ) → left ≤ 0 → left ≡ 0
 left_none left none = omega arith
 
 -- the last port is given up
-pub give_last : {t : ℕ} {w x : State} (held : List ℕ) (port : ℕ) (u : Unit {0}) (end : Result ℕ Errno) → Does t (made (PortDeallocate port) unread) w (Ok u) x
+pub give_last : {t : ℕ} {w x : State} (held : List ℕ) (port : ℕ) (u : Unit {0}) (end : Result ℕ Errno) → Does t (made (Plain (PortDeallocate port)) unread) w (Ok u) x
     → Leads t (releasing (held ++ port ∷ []) (gives end)) w (releasing held (gives end)) x
 unfolding bind tried
 give_last held port u end d = rw releasing_more (held_leads held (tried_ends (on_ok (λ v. gives end)) d.ends))

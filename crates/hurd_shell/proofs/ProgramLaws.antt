@@ -4,7 +4,8 @@ use Rattle.std.specs.Result.{IsErr, IsErrAnd}
 use Rattle.hurd_creds.specs.declared.errno.Errno.{Errno}
 use Rattle.hurd_trans_iface.specs.Meaning.{Meaning}
 use Rattle.hurd_machine.specs.Calls.{Call, Reply}
-use Rattle.hurd_machine.specs.declared.call.Call.TheVariants.{PortDeallocate}
+use Rattle.hurd_machine.specs.declared.call.Call.TheVariants.{Plain}
+use Rattle.hurd_machine.specs.declared.call.PlainCall.TheVariants.{PortDeallocate}
 use Rattle.hurd_machine.specs.World.{World}
 use Rattle.hurd_laws.specs.Step.{reply_of, after}
 use Rattle.hurd_world.specs.Noting.{State, NotesWhatIsTouched}
@@ -98,13 +99,13 @@ lost_ends t p w x (Err e) gone = rw gone.1 tt
 pub does_lost : {A : Type 0} {t : ℕ} {p : Prog A} {w x : State} {r : Result A Stop} → IsErr r × IsErrAnd r (λ e. e ≡ Memory) → Does t p w r x
 does_lost gone = record { ends = lost_ends _ _ _ _ _ gone }
 
-closes : {t : ℕ} {x y : State} (p : Prog Printed) (w : State) (port : ℕ) (u : Unit {0}) (r : Result Printed Stop) → Ends t p w r x → Does t (made (PortDeallocate port) unread) x (Ok u) y → Ends t (closing port p) w r y
+closes : {t : ℕ} {x y : State} (p : Prog Printed) (w : State) (port : ℕ) (u : Unit {0}) (r : Result Printed Stop) → Ends t p w r x → Does t (made (Plain (PortDeallocate port)) unread) x (Ok u) y → Ends t (closing port p) w r y
 closes p w port u (Ok a) d e = leads_trans (tried_ends _ d) (does_ok {r = Ok a} (λ v. gives (Ok a)) e (does_gives _ a _)).ends
 closes p w port u (Err (Refused s)) d e = leads_trans (tried_ends _ d) (does_ok {r = Err (Refused s)} (λ v. gives (Err s)) e (record { ends = leads_refl _ _ _ })).ends
 closes p w port u (Err Memory) d e = tt
 
 -- a program was made, and its port is given up
-pub does_close : {t : ℕ} {p : Prog Printed} {r : Result Printed Stop} {w x y : State} (port : ℕ) (u : Unit {0}) → Does t p w r x → Does t (made (PortDeallocate port) unread) x (Ok u) y → Does t (closing port p) w r y
+pub does_close : {t : ℕ} {p : Prog Printed} {r : Result Printed Stop} {w x y : State} (port : ℕ) (u : Unit {0}) → Does t p w r x → Does t (made (Plain (PortDeallocate port)) unread) x (Ok u) y → Does t (closing port p) w r y
 does_close port u d e = record { ends = closes _ _ port u _ d.ends e }
 
 reaches_behind : {A B : Type 0} (t : ℕ) (p q : Prog A) (w x y : State) (left : B → Prog A) (r : Result B Stop) → Leads t p w q x → ReachesTo t q x left r y → ReachesTo t p w left r y

@@ -3,7 +3,8 @@ use Rattle.std.proofs.Common.{◌≡◌, ℕ, ◌&&◌, Bool, true, false, List,
 use Rattle.std.specs.Result.{IsErr, IsErrAnd}
 use Rattle.hurd_creds.specs.declared.errno.Errno.{Errno}
 use Rattle.hurd_trans_iface.specs.Nodes.{has_words}
-use Rattle.hurd_machine.specs.declared.call.Call.TheVariants.{PortDeallocate}
+use Rattle.hurd_machine.specs.declared.call.Call.TheVariants.{Plain}
+use Rattle.hurd_machine.specs.declared.call.PlainCall.TheVariants.{PortDeallocate}
 use Rattle.hurd_machine.specs.declared.call.Setting.{Setting}
 use Rattle.hurd_world.specs.Noting.{State}
 use Rattle.hurd_world.proofs.NotingLaws.{notes_refl}
@@ -109,17 +110,17 @@ sets_none port setting words true none d = absurd (cc)
 sets_none port setting words false none d = d
 
 -- a translator was set, and the node is given up
-pub set_closed : {t : ℕ} {w x : State} (port : ℕ) (u v : Unit {0}) → Does t (made (PortDeallocate port) unread) w (Ok u) x
+pub set_closed : {t : ℕ} {w x : State} (port : ℕ) (u v : Unit {0}) → Does t (made (Plain (PortDeallocate port)) unread) w (Ok u) x
     → Reaches t (closing port (silent (gives (Ok v)))) w progress_on (Ok (progress.Ended (prints []))) x
 set_closed port u v d = ended (does_close port u (does_ok {a = v} (λ z. gives (Ok (prints []))) (does_gives _ _ _) (does_gives _ _ _)) d)
 
 -- no translator was set, and the node is given up
-pub unset_closed : {t : ℕ} {w x : State} (port : ℕ) (u : Unit {0}) (e : Errno) → Does t (made (PortDeallocate port) unread) w (Ok u) x
+pub unset_closed : {t : ℕ} {w x : State} (port : ℕ) (u : Unit {0}) (e : Errno) → Does t (made (Plain (PortDeallocate port)) unread) w (Ok u) x
     → Reaches {B = Progress} t (closing port (silent (gives (Err e)))) w progress_on (Err (Refused e)) x
 unset_closed port u e d = record { reaches = (does_close port u (err_does (λ z. gives (Ok (prints []))) (Refused e) (does_refuse _ _ _)) d).ends }
 
 -- what was refused is refused, and the port is given up
-pub refused_closed : {t : ℕ} {w x : State} (port : ℕ) (u : Unit {0}) (e : Errno) (s : Stop) → s ≡ Refused e → Does t (made (PortDeallocate port) unread) w (Ok u) x
+pub refused_closed : {t : ℕ} {w x : State} (port : ℕ) (u : Unit {0}) (e : Errno) (s : Stop) → s ≡ Refused e → Does t (made (Plain (PortDeallocate port)) unread) w (Ok u) x
     → Reaches {B = Progress} t (closing port (gives (Err e))) w progress_on (Err s) x
 refused_closed port u e s same d = rw same (record { reaches = (does_close port u (does_refuse _ _ _) d).ends })
 

@@ -12,7 +12,8 @@ use Rattle.hurd_creds.specs.TransBits as trans
 use Rattle.hurd_creds.specs.Limits.{most_read}
 use Rattle.hurd_trans_iface.specs.Meaning.{Meaning}
 use Rattle.hurd_trans_iface.specs.Nodes.{has_words}
-use Rattle.hurd_machine.specs.declared.call.Call.TheVariants.{IoRead, IoWrite, IoStat, FileSetSize, FileChmod, FileChown, FileSetTranslator, FileGetTranslator, FileGetcontrol, FsysGetOptions, FsysSetOptions, DirReaddir, DirMkdir, DirRmdir, DirUnlink, DirLink, DirRename}
+use Rattle.hurd_machine.specs.declared.call.Call.TheVariants.{Plain, FileSetTranslator}
+use Rattle.hurd_machine.specs.declared.call.PlainCall.TheVariants.{IoRead, IoWrite, IoStat, FileSetSize, FileChmod, FileChown, FileGetTranslator, FileGetcontrol, FsysGetOptions, FsysSetOptions, DirReaddir, DirMkdir, DirRmdir, DirUnlink, DirLink, DirRename}
 use Rattle.hurd_machine.specs.declared.call.Setting.{Setting}
 use Rattle.hurd_script.specs.declared.command.Action.{Action}
 use Rattle.hurd_script.specs.declared.command.Action.TheVariants.{Cat, Ls, Stat, Put, Mkdir, Rm, Rmdir, Ln, Mv, Chmod, Chown, Showtrans, Fsysopts, Settrans, Usage}
@@ -56,7 +57,7 @@ cat_read output more (Ok (b ∷ bs)) = more (output ++ b ∷ bs)
 -- with so many reads left, a file's bytes from the cursor on, behind those that were read
 unfoldable pub cat_from : ℕ → ℕ → List ℕ → Prog Printed
 cat_from zero p output = gives (Ok (prints output))
-cat_from (suc reads) p output = tried (made (IoRead p most_read at_cursor) data_of) (cat_read output (cat_from reads p))
+cat_from (suc reads) p output = tried (made (Plain (IoRead p most_read at_cursor)) data_of) (cat_read output (cat_from reads p))
 
 -- cat: reads until one gives no bytes, one is refused, or no more may be made
 abbrev pub cat : ℕ → Prog Printed
@@ -73,36 +74,36 @@ as_lines (name ∷ names) = name ++ 10 ∷ as_lines names
 
 -- ls: the names in a directory but `.` and `..`
 abbrev pub ls : ℕ → Prog Printed
-ls p = bind (made (DirReaddir p) names_of) (λ names. gives (Ok (prints (as_lines (filter is_shown names)))))
+ls p = bind (made (Plain (DirReaddir p)) names_of) (λ names. gives (Ok (prints (as_lines (filter is_shown names)))))
 
 -- put: the file is cut to nothing, and the text written
 abbrev pub put : List ℕ → ℕ → Prog Printed
-put text p = bind (made (FileSetSize p 0) done_of) (λ u. bind (made (IoWrite p text at_cursor) done_of) (λ v. gives (Ok (prints []))))
+put text p = bind (made (Plain (FileSetSize p 0)) done_of) (λ u. bind (made (Plain (IoWrite p text at_cursor)) done_of) (λ v. gives (Ok (prints []))))
 
 -- ls -d: what is told of the node itself
 abbrev pub stat : ℕ → Prog Printed
-stat p = bind (made (IoStat p) stat_of) (λ s. gives (Ok (prints (stat_line s))))
+stat p = bind (made (Plain (IoStat p)) stat_of) (λ s. gives (Ok (prints (stat_line s))))
 
 -- chmod: the node's mode is set
 abbrev pub chmod : Mode → ℕ → Prog Printed
-chmod mode p = bind (made (FileChmod p mode) done_of) (λ u. gives (Ok (prints [])))
+chmod mode p = bind (made (Plain (FileChmod p mode)) done_of) (λ u. gives (Ok (prints [])))
 
 -- chown: the node's owner and group are set
 abbrev pub chown : ℕ → ℕ → ℕ → Prog Printed
-chown owner group p = bind (made (FileChown p owner group) done_of) (λ u. gives (Ok (prints [])))
+chown owner group p = bind (made (Plain (FileChown p owner group)) done_of) (λ u. gives (Ok (prints [])))
 
 -- showtrans: the words of the passive translator are shown
 abbrev pub showtrans : ℕ → Prog Printed
-showtrans p = bind (made (FileGetTranslator p) words_of) (λ words. gives (Ok (prints (words_line words))))
+showtrans p = bind (made (Plain (FileGetTranslator p)) words_of) (λ words. gives (Ok (prints (words_line words))))
 
 -- with no words, a server's options are shown; else these are given to it
 abbrev pub options : List (List ℕ) → ℕ → Prog Printed
-options [] c = bind (made (FsysGetOptions c) words_of) (λ shown. gives (Ok (prints (words_line shown))))
-options (word ∷ words) c = silent (made (FsysSetOptions c (word ∷ words)) done_of)
+options [] c = bind (made (Plain (FsysGetOptions c)) words_of) (λ shown. gives (Ok (prints (words_line shown))))
+options (word ∷ words) c = silent (made (Plain (FsysSetOptions c (word ∷ words))) done_of)
 
 -- fsysopts: the control port of the node's server is got, worked on, and given up
 abbrev pub fsysopts : List (List ℕ) → ℕ → Prog Printed
-fsysopts words p = bind (made (FileGetcontrol p) port_of) (λ c. closing c (options words c))
+fsysopts words p = bind (made (Plain (FileGetcontrol p)) port_of) (λ c. closing c (options words c))
 
 -- a half of a translator that is set: only where none is there, or whatever is; ORPHAN lets an old server live on
 abbrev pub set_half : Bool → Bool → TransFlags
@@ -190,23 +191,23 @@ in_place place k = with_open place.directory to_enter (λ p. k p place.name)
 
 -- mkdir: a directory is made
 abbrev pub mkdir : ℕ → List ℕ → Prog Printed
-mkdir p name = silent (made (DirMkdir p name directory_mode) done_of)
+mkdir p name = silent (made (Plain (DirMkdir p name directory_mode)) done_of)
 
 -- rm: the name of a file is taken away
 abbrev pub rm : ℕ → List ℕ → Prog Printed
-rm p name = silent (made (DirUnlink p name) done_of)
+rm p name = silent (made (Plain (DirUnlink p name)) done_of)
 
 -- rmdir: a directory is removed
 abbrev pub rmdir : ℕ → List ℕ → Prog Printed
-rmdir p name = silent (made (DirRmdir p name) done_of)
+rmdir p name = silent (made (Plain (DirRmdir p name)) done_of)
 
 -- ln: an open file is given another name
 abbrev pub ln : Place → ℕ → Prog Printed
-ln new file = in_place new (λ p name. silent (made (DirLink p name file) done_of))
+ln new file = in_place new (λ p name. silent (made (Plain (DirLink p name file)) done_of))
 
 -- mv: an entry of an open directory is moved to another name, there or elsewhere
 abbrev pub mv : Place → ℕ → List ℕ → Prog Printed
-mv new p name = in_place new (λ q fresh. silent (made (DirRename p name q fresh) done_of))
+mv new p name = in_place new (λ q fresh. silent (made (Plain (DirRename p name q fresh)) done_of))
 
 -- the program of what a command asks for
 abbrev pub program_of : Action → Prog Printed

@@ -11,7 +11,8 @@ use Rattle.hurd_trans_iface.specs.Kinds.Hello.{behind}
 use Rattle.hurd_trans_iface.specs.Kinds.Symlink.{is_absolute}
 use Rattle.hurd_lookup.specs.Path.{is_slash_byte}
 use Rattle.hurd_creds.specs.Numbers.{long_number_of}
-use Rattle.hurd_machine.specs.declared.call.Call.TheVariants.{DirLookup, IoReauthenticate, FsysStartup, StartFailed}
+use Rattle.hurd_machine.specs.declared.call.Call.TheVariants.{Plain, FsysStartup}
+use Rattle.hurd_machine.specs.declared.call.PlainCall.TheVariants.{DirLookup, IoReauthenticate, StartFailed}
 use Rattle.hurd_machine.specs.declared.call.Lookup.TheVariants as found
 use Rattle.hurd_machine.specs.Calls.{Reply}
 use Rattle.hurd_machine.specs.declared.call.Reply.TheVariants as reply
@@ -55,7 +56,7 @@ looked_of _ = Err EIO
 
 -- one lookup
 abbrev pub looking : OpenFlags → ℕ → List ℕ → Prog Looked
-looking flags dir name = made (DirLookup dir name flags file_mode) looked_of
+looking flags dir name = made (Plain (DirLookup dir name flags file_mode)) looked_of
 
 -- a way to open a name at a port
 abbrev pub Opener : Type 0
@@ -82,7 +83,7 @@ placed opener (Some place) = opener place.0 place.1
 -- following a retry: its name is opened at its port, at the port that the task's own ids give, or where the magical name says, and then its ports are given up
 abbrev pub followed : Opener → Retry → Prog ℕ
 followed opener (Normal name p) = closing p (opener p name)
-followed opener (Reauth name p) = closing p (bind (made (IoReauthenticate p) port_of) (λ own. closing own (opener own name)))
+followed opener (Reauth name p) = closing p (bind (made (Plain (IoReauthenticate p)) port_of) (λ own. closing own (opener own name)))
 followed opener (Magical name) = placed opener (magical_place name)
 
 -- a retry too many: it is ELOOP, and its port is given up
@@ -98,7 +99,7 @@ not_started words = gives (Err ELOOP)
 -- with a server, the translator is started; without one the start is given up, and there is no node
 abbrev pub start_with : Option Meaning → Prog (Unit {0})
 start_with (Some server) = made (FsysStartup server) started_of
-start_with None = bind (made StartFailed unread) (λ u. gives (Err ENOENT))
+start_with None = bind (made (Plain StartFailed) unread) (λ u. gives (Err ENOENT))
 
 -- a start: its server is asked for, and then the node is looked up again
 abbrev pub starting : Prog ℕ → List (List ℕ) → Prog ℕ

@@ -5,7 +5,8 @@ use Rattle.hurd_creds.specs.declared.errno.Errno.TheVariants.{EIO, EBUSY}
 use Rattle.hurd_creds.specs.declared.attrs.Stat.{Stat}
 use Rattle.hurd_trans_iface.specs.Meaning.{Meaning}
 use Rattle.hurd_machine.specs.Calls.{Call, Reply}
-use Rattle.hurd_machine.specs.declared.call.Call.TheVariants.{PortDeallocate}
+use Rattle.hurd_machine.specs.declared.call.Call.TheVariants.{Plain}
+use Rattle.hurd_machine.specs.declared.call.PlainCall.TheVariants.{PortDeallocate}
 use Rattle.hurd_machine.specs.declared.call.Reply.TheVariants as reply
 use Rattle.hurd_machine.specs.World.{World}
 use Rattle.hurd_laws.specs.Step.{reply_of, after}
@@ -106,4 +107,4 @@ unread r = Ok tt
 
 -- a program, and behind its end the port is given up
 abbrev pub closing : {A : Type 0} → ℕ → Prog A → Prog A
-closing p q = tried q (λ r. bind (made (PortDeallocate p) unread) (λ u. gives r))
+closing p q = tried q (λ r. bind (made (Plain (PortDeallocate p)) unread) (λ u. gives r))

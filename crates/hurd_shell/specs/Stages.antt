@@ -4,7 +4,8 @@ use Rattle.hurd_creds.specs.declared.errno.Errno.{Errno}
 use Rattle.hurd_trans_iface.specs.Meaning.{Meaning}
 use Rattle.hurd_trans_iface.specs.Nodes.{has_words}
 use Rattle.hurd_machine.specs.declared.call.Call as call
-use Rattle.hurd_machine.specs.declared.call.Call.TheVariants.{DirLink, DirRename, FileSetTranslator, FsysStartup}
+use Rattle.hurd_machine.specs.declared.call.Call.TheVariants.{Plain, FileSetTranslator, FsysStartup}
+use Rattle.hurd_machine.specs.declared.call.PlainCall.TheVariants.{DirLink, DirRename}
 use Rattle.hurd_shell.specs.declared.commands.Printed.{Printed}
 use Rattle.hurd_shell.specs.declared.commands.NodeWork.{NodeWork}
 use Rattle.hurd_shell.specs.declared.commands.NodeWork.TheVariants as node
@@ -41,8 +42,8 @@ node_work_of (node.Rmdir name) = λ p. rmdir p name
 
 -- the call of what a command does at a name of a second directory, while it holds an open node
 abbrev pub entry_change_of : EntryWork → ℕ → ℕ → List ℕ → Prog (Unit {0})
-entry_change_of entry.Ln file q name = made (DirLink q name file) done_of
-entry_change_of (entry.Mv old) p q name = made (DirRename p old q name) done_of
+entry_change_of entry.Ln file q name = made (Plain (DirLink q name file)) done_of
+entry_change_of (entry.Mv old) p q name = made (Plain (DirRename p old q name)) done_of
 
 -- the program of that
 abbrev pub entry_work_of : EntryWork → ℕ → ℕ → List ℕ → Prog Printed

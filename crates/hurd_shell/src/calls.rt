@@ -16,7 +16,7 @@ use crate::looking::{Looked, Retry};
 use hurd_creds::{Bytes, Errno, MOST_READ, Mode, OpenFlags, Stat, TaskId};
 use hurd_machine::Setting;
 use hurd_trans_iface::{Names, Server, Words};
-use hurd_world::{Call, Lookup, Reply, RetryKind, World};
+use hurd_world::{Call, Lookup, PlainCall, Reply, RetryKind, World};
 use std::alloc::Global;
 
 /// The offset that stands for the cursor.
@@ -253,9 +253,14 @@ pub(crate) fn deallocate<S: Server>(
     task: TaskId,
     port: u64,
 ) -> Result<(), NoMemory>
-    ensures { IfOk result (λ u. Ran S.meaning task.0 (made (Call.PortDeallocate port) unread) world.old (Ok u) world.new) }
+    ensures { IfOk result (λ u. Ran S.meaning task.0 (made (Call.Plain (PlainCall.PortDeallocate port)) unread) world.old (Ok u) world.new) }
 {
-    let _reply = made(world, alloc, task, Call::PortDeallocate { port })?;
+    let _reply = made(
+        world,
+        alloc,
+        task,
+        Call::Plain(PlainCall::PortDeallocate { port }),
+    )?;
     Ok(())
 }
 
@@ -270,12 +275,12 @@ pub(crate) fn look_up<S: Server>(
 ) -> Result<Looked, Stop>
     ensures { Ran S.meaning task.0 (looking flags dir path) world.old result world.new }
 {
-    let call = Call::DirLookup {
+    let call = Call::Plain(PlainCall::DirLookup {
         dir,
         path,
         flags,
         mode: file_mode(),
-    };
+    });
     looked_of(made(world, alloc, task, call)?)
 }
 
@@ -286,9 +291,9 @@ pub(crate) fn reauthenticate<S: Server>(
     task: TaskId,
     port: u64,
 ) -> Result<u64, Stop>
-    ensures { Ran S.meaning task.0 (made (Call.IoReauthenticate port) port_of) world.old result world.new }
+    ensures { Ran S.meaning task.0 (made (Call.Plain (PlainCall.IoReauthenticate port)) port_of) world.old result world.new }
 {
-    let call = Call::IoReauthenticate { port };
+    let call = Call::Plain(PlainCall::IoReauthenticate { port });
     port_of(made(world, alloc, task, call)?)
 }
 
@@ -299,13 +304,13 @@ pub(crate) fn read<S: Server>(
     task: TaskId,
     port: u64,
 ) -> Result<Bytes, Stop>
-    ensures { Ran S.meaning task.0 (made (Call.IoRead port most_read at_cursor) data_of) world.old result world.new }
+    ensures { Ran S.meaning task.0 (made (Call.Plain (PlainCall.IoRead port most_read at_cursor)) data_of) world.old result world.new }
 {
-    let call = Call::IoRead {
+    let call = Call::Plain(PlainCall::IoRead {
         port,
         amount: MOST_READ,
         offset: AT_CURSOR,
-    };
+    });
     data_of(made(world, alloc, task, call)?)
 }
 
@@ -317,13 +322,13 @@ pub(crate) fn write<S: Server>(
     port: u64,
     bytes: Bytes,
 ) -> Result<(), Stop>
-    ensures { Ran S.meaning task.0 (made (Call.IoWrite port bytes at_cursor) done_of) world.old result world.new }
+    ensures { Ran S.meaning task.0 (made (Call.Plain (PlainCall.IoWrite port bytes at_cursor)) done_of) world.old result world.new }
 {
-    let call = Call::IoWrite {
+    let call = Call::Plain(PlainCall::IoWrite {
         port,
         bytes,
         offset: AT_CURSOR,
-    };
+    });
     done_of(made(world, alloc, task, call)?)
 }
 
@@ -334,9 +339,9 @@ pub(crate) fn cut<S: Server>(
     task: TaskId,
     port: u64,
 ) -> Result<(), Stop>
-    ensures { Ran S.meaning task.0 (made (Call.FileSetSize port 0) done_of) world.old result world.new }
+    ensures { Ran S.meaning task.0 (made (Call.Plain (PlainCall.FileSetSize port 0)) done_of) world.old result world.new }
 {
-    let call = Call::FileSetSize { port, size: 0 };
+    let call = Call::Plain(PlainCall::FileSetSize { port, size: 0 });
     done_of(made(world, alloc, task, call)?)
 }
 
@@ -347,9 +352,9 @@ pub(crate) fn names<S: Server>(
     task: TaskId,
     port: u64,
 ) -> Result<Names, Stop>
-    ensures { Ran S.meaning task.0 (made (Call.DirReaddir port) names_of) world.old result world.new }
+    ensures { Ran S.meaning task.0 (made (Call.Plain (PlainCall.DirReaddir port)) names_of) world.old result world.new }
 {
-    let call = Call::DirReaddir { port };
+    let call = Call::Plain(PlainCall::DirReaddir { port });
     names_of(made(world, alloc, task, call)?)
 }
 
@@ -360,9 +365,9 @@ pub(crate) fn stat<S: Server>(
     task: TaskId,
     port: u64,
 ) -> Result<Stat, Stop>
-    ensures { Ran S.meaning task.0 (made (Call.IoStat port) stat_of) world.old result world.new }
+    ensures { Ran S.meaning task.0 (made (Call.Plain (PlainCall.IoStat port)) stat_of) world.old result world.new }
 {
-    let call = Call::IoStat { port };
+    let call = Call::Plain(PlainCall::IoStat { port });
     stat_of(made(world, alloc, task, call)?)
 }
 
@@ -374,9 +379,9 @@ pub(crate) fn chmod<S: Server>(
     port: u64,
     mode: Mode,
 ) -> Result<(), Stop>
-    ensures { Ran S.meaning task.0 (made (Call.FileChmod port mode) done_of) world.old result world.new }
+    ensures { Ran S.meaning task.0 (made (Call.Plain (PlainCall.FileChmod port mode)) done_of) world.old result world.new }
 {
-    let call = Call::FileChmod { port, mode };
+    let call = Call::Plain(PlainCall::FileChmod { port, mode });
     done_of(made(world, alloc, task, call)?)
 }
 
@@ -389,9 +394,9 @@ pub(crate) fn chown<S: Server>(
     owner: u32,
     group: u32,
 ) -> Result<(), Stop>
-    ensures { Ran S.meaning task.0 (made (Call.FileChown port owner group) done_of) world.old result world.new }
+    ensures { Ran S.meaning task.0 (made (Call.Plain (PlainCall.FileChown port owner group)) done_of) world.old result world.new }
 {
-    let call = Call::FileChown { port, owner, group };
+    let call = Call::Plain(PlainCall::FileChown { port, owner, group });
     done_of(made(world, alloc, task, call)?)
 }
 
@@ -403,13 +408,13 @@ pub(crate) fn mkdir<S: Server>(
     dir: u64,
     name: Bytes,
 ) -> Result<(), Stop>
-    ensures { Ran S.meaning task.0 (made (Call.DirMkdir dir name directory_mode) done_of) world.old result world.new }
+    ensures { Ran S.meaning task.0 (made (Call.Plain (PlainCall.DirMkdir dir name directory_mode)) done_of) world.old result world.new }
 {
-    let call = Call::DirMkdir {
+    let call = Call::Plain(PlainCall::DirMkdir {
         dir,
         name,
         mode: directory_mode(),
-    };
+    });
     done_of(made(world, alloc, task, call)?)
 }
 
@@ -421,9 +426,9 @@ pub(crate) fn unlink<S: Server>(
     dir: u64,
     name: Bytes,
 ) -> Result<(), Stop>
-    ensures { Ran S.meaning task.0 (made (Call.DirUnlink dir name) done_of) world.old result world.new }
+    ensures { Ran S.meaning task.0 (made (Call.Plain (PlainCall.DirUnlink dir name)) done_of) world.old result world.new }
 {
-    let call = Call::DirUnlink { dir, name };
+    let call = Call::Plain(PlainCall::DirUnlink { dir, name });
     done_of(made(world, alloc, task, call)?)
 }
 
@@ -435,9 +440,9 @@ pub(crate) fn rmdir<S: Server>(
     dir: u64,
     name: Bytes,
 ) -> Result<(), Stop>
-    ensures { Ran S.meaning task.0 (made (Call.DirRmdir dir name) done_of) world.old result world.new }
+    ensures { Ran S.meaning task.0 (made (Call.Plain (PlainCall.DirRmdir dir name)) done_of) world.old result world.new }
 {
-    let call = Call::DirRmdir { dir, name };
+    let call = Call::Plain(PlainCall::DirRmdir { dir, name });
     done_of(made(world, alloc, task, call)?)
 }
 
@@ -450,9 +455,9 @@ pub(crate) fn link<S: Server>(
     name: Bytes,
     file: u64,
 ) -> Result<(), Stop>
-    ensures { Ran S.meaning task.0 (made (Call.DirLink dir name file) done_of) world.old result world.new }
+    ensures { Ran S.meaning task.0 (made (Call.Plain (PlainCall.DirLink dir name file)) done_of) world.old result world.new }
 {
-    let call = Call::DirLink { dir, name, file };
+    let call = Call::Plain(PlainCall::DirLink { dir, name, file });
     done_of(made(world, alloc, task, call)?)
 }
 
@@ -466,9 +471,9 @@ pub(crate) fn rename<S: Server>(
     to: u64,
     new: Bytes,
 ) -> Result<(), Stop>
-    ensures { Ran S.meaning task.0 (made (Call.DirRename dir name to new) done_of) world.old result world.new }
+    ensures { Ran S.meaning task.0 (made (Call.Plain (PlainCall.DirRename dir name to new)) done_of) world.old result world.new }
 {
-    let call = Call::DirRename { dir, name, to, new };
+    let call = Call::Plain(PlainCall::DirRename { dir, name, to, new });
     done_of(made(world, alloc, task, call)?)
 }
 
@@ -479,9 +484,9 @@ pub(crate) fn passive<S: Server>(
     task: TaskId,
     port: u64,
 ) -> Result<Words, Stop>
-    ensures { Ran S.meaning task.0 (made (Call.FileGetTranslator port) words_of) world.old result world.new }
+    ensures { Ran S.meaning task.0 (made (Call.Plain (PlainCall.FileGetTranslator port)) words_of) world.old result world.new }
 {
-    let call = Call::FileGetTranslator { port };
+    let call = Call::Plain(PlainCall::FileGetTranslator { port });
     words_of(made(world, alloc, task, call)?)
 }
 
@@ -492,9 +497,9 @@ pub(crate) fn control<S: Server>(
     task: TaskId,
     port: u64,
 ) -> Result<u64, Stop>
-    ensures { Ran S.meaning task.0 (made (Call.FileGetcontrol port) port_of) world.old result world.new }
+    ensures { Ran S.meaning task.0 (made (Call.Plain (PlainCall.FileGetcontrol port)) port_of) world.old result world.new }
 {
-    let call = Call::FileGetcontrol { port };
+    let call = Call::Plain(PlainCall::FileGetcontrol { port });
     port_of(made(world, alloc, task, call)?)
 }
 
@@ -505,9 +510,9 @@ pub(crate) fn options<S: Server>(
     task: TaskId,
     control: u64,
 ) -> Result<Words, Stop>
-    ensures { Ran S.meaning task.0 (made (Call.FsysGetOptions control) words_of) world.old result world.new }
+    ensures { Ran S.meaning task.0 (made (Call.Plain (PlainCall.FsysGetOptions control)) words_of) world.old result world.new }
 {
-    let call = Call::FsysGetOptions { control };
+    let call = Call::Plain(PlainCall::FsysGetOptions { control });
     words_of(made(world, alloc, task, call)?)
 }
 
@@ -519,9 +524,9 @@ pub(crate) fn set_options<S: Server>(
     control: u64,
     words: Words,
 ) -> Result<(), Stop>
-    ensures { Ran S.meaning task.0 (made (Call.FsysSetOptions control words) done_of) world.old result world.new }
+    ensures { Ran S.meaning task.0 (made (Call.Plain (PlainCall.FsysSetOptions control words)) done_of) world.old result world.new }
 {
-    let call = Call::FsysSetOptions { control, words };
+    let call = Call::Plain(PlainCall::FsysSetOptions { control, words });
     done_of(made(world, alloc, task, call)?)
 }
 
@@ -551,9 +556,9 @@ pub(crate) fn start_failed<S: Server>(
     alloc: Global,
     task: TaskId,
 ) -> Result<(), NoMemory>
-    ensures { IfOk result (λ u. Ran S.meaning task.0 (made Call.StartFailed unread) world.old (Ok u) world.new) }
+    ensures { IfOk result (λ u. Ran S.meaning task.0 (made (Call.Plain PlainCall.StartFailed) unread) world.old (Ok u) world.new) }
 {
-    let _reply = made(world, alloc, task, Call::StartFailed)?;
+    let _reply = made(world, alloc, task, Call::Plain(PlainCall::StartFailed))?;
     Ok(())
 }
 

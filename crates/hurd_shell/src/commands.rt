@@ -1,6 +1,7 @@
 //! What commands do with an open node.
 ghost use Rattle.std.specs.Prelude.{◌≡◌, ◌++◌, ◌∷◌, [], List, ℕ, IfOk, OnOk, filter};
 ghost use Rattle.hurd_machine.specs.declared.call.Call.TheVariants as Call;
+ghost use Rattle.hurd_machine.specs.declared.call.PlainCall.TheVariants as PlainCall;
 ghost use Rattle.hurd_shell.specs.Commands as written;
 ghost use Rattle.hurd_shell.specs.Programs.{done_of, made};
 ghost use Rattle.hurd_shell.specs.Progress.{Ran};
@@ -218,7 +219,7 @@ fn set_options<S: Server>(
     control: u64,
     words: Words,
 ) -> Result<Printed, Stop>
-    ensures { Ran S.meaning task.0 (written.silent (made (Call.FsysSetOptions control words) done_of)) world.old result world.new }
+    ensures { Ran S.meaning task.0 (written.silent (made (Call.Plain (PlainCall.FsysSetOptions control words)) done_of)) world.old result world.new }
 {
     calls::set_options(world, alloc, task, control, words)?;
     Ok(prints(Vec::new(alloc)))

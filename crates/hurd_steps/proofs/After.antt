@@ -1,7 +1,8 @@
 -- What a call leaves is the same but for names: row by row.
 use Rattle.std.proofs.Common.{◌≡◌, ℕ}
 use Rattle.hurd_machine.specs.Calls.{Call, box_in}
-use Rattle.hurd_machine.specs.declared.call.Call.TheVariants.{PortDeallocate, PortSend, PortReceive, AuthMakeauth, DirLookup, IoRead, IoWrite, IoSeek, IoStat, IoReadable, IoGetOpenmodes, IoSetAllOpenmodes, IoDuplicate, IoReauthenticate, IoRestrictAuth, IoIdentity, FileSetSize, FileChmod, FileChown, FileCheckAccess, FileSetTranslator, FileGetTranslator, FileGetTranslatorCntl, FileGetcontrol, FsysStartup, StartFailed, FsysGetroot, FsysGoaway, FsysGetOptions, FsysSetOptions, DirReaddir, DirMkdir, DirRmdir, DirUnlink, DirLink, DirMkfile, DirRename}
+use Rattle.hurd_machine.specs.declared.call.Call.TheVariants.{Plain, FileSetTranslator, FsysStartup}
+use Rattle.hurd_machine.specs.declared.call.PlainCall.TheVariants.{PortDeallocate, PortSend, PortReceive, AuthMakeauth, DirLookup, IoRead, IoWrite, IoSeek, IoStat, IoReadable, IoGetOpenmodes, IoSetAllOpenmodes, IoDuplicate, IoReauthenticate, IoRestrictAuth, IoIdentity, FileSetSize, FileChmod, FileChown, FileCheckAccess, FileGetTranslator, FileGetTranslatorCntl, FileGetcontrol, StartFailed, FsysGetroot, FsysGoaway, FsysGetOptions, FsysSetOptions, DirReaddir, DirMkdir, DirRmdir, DirUnlink, DirLink, DirMkfile, DirRename}
 use Rattle.hurd_machine.proofs.Common.{World}
 use Rattle.hurd_machine.specs.Renamed.{OtherNames, renamed}
 use Rattle.hurd_laws.specs.Step.{row}
@@ -19,43 +20,43 @@ use Rattle.hurd_steps.proofs.SettingLeft.{set_translator-left, start_failed-left
 
 module _ (f : OtherNames) (w : World) (t : ℕ) (keeps : KeepsOwn f t) where
   row_left : (c : Call) → Changing f (row w t c) (row (renamed f w) t c)
-  row_left (PortDeallocate p) = deallocate-left f w t p
-  row_left (PortSend p q) = send-left f w t p q.0
-  row_left PortReceive = receive-left f w t keeps.none
-  row_left (AuthMakeauth ids) = makeauth-left f w t ids
-  row_left (DirLookup p path flags mode) = lookup-left f t keeps w p path flags mode
-  row_left (IoRead p amount offset) = read-left f w t p amount offset
-  row_left (IoWrite p bytes offset) = write-left f w t p bytes offset
-  row_left (IoSeek p offset whence) = seek-left f w t p offset whence
-  row_left (IoStat p) = looks-left f _ _ _ _
-  row_left (IoReadable p) = looks-left f _ _ _ _
-  row_left (IoGetOpenmodes p) = looks-left f _ _ _ _
-  row_left (IoSetAllOpenmodes p flags) = set_openmodes-left f w t p flags
-  row_left (IoDuplicate p) = share-left f w t keeps.none p ids_of_port
-  row_left (IoReauthenticate p) = share-left f w t keeps.none p ids_of_task
-  row_left (IoRestrictAuth p ids) = share-left f w t keeps.none p (ids_among ids)
-  row_left (IoIdentity p q) = looks-left f _ _ _ _
-  row_left (FileSetSize p size) = set_size-left f w t p size
-  row_left (FileChmod p mode) = chmod-left f w t p mode
-  row_left (FileChown p owner group) = chown-left f w t p owner group
-  row_left (FileCheckAccess p) = looks-left f _ _ _ _
+  row_left (Plain (PortDeallocate p)) = deallocate-left f w t p
+  row_left (Plain (PortSend p q)) = send-left f w t p q.0
+  row_left (Plain PortReceive) = receive-left f w t keeps.none
+  row_left (Plain (AuthMakeauth ids)) = makeauth-left f w t ids
+  row_left (Plain (DirLookup p path flags mode)) = lookup-left f t keeps w p path flags mode
+  row_left (Plain (IoRead p amount offset)) = read-left f w t p amount offset
+  row_left (Plain (IoWrite p bytes offset)) = write-left f w t p bytes offset
+  row_left (Plain (IoSeek p offset whence)) = seek-left f w t p offset whence
+  row_left (Plain (IoStat p)) = looks-left f _ _ _ _
+  row_left (Plain (IoReadable p)) = looks-left f _ _ _ _
+  row_left (Plain (IoGetOpenmodes p)) = looks-left f _ _ _ _
+  row_left (Plain (IoSetAllOpenmodes p flags)) = set_openmodes-left f w t p flags
+  row_left (Plain (IoDuplicate p)) = share-left f w t keeps.none p ids_of_port
+  row_left (Plain (IoReauthenticate p)) = share-left f w t keeps.none p ids_of_task
+  row_left (Plain (IoRestrictAuth p ids)) = share-left f w t keeps.none p (ids_among ids)
+  row_left (Plain (IoIdentity p q)) = looks-left f _ _ _ _
+  row_left (Plain (FileSetSize p size)) = set_size-left f w t p size
+  row_left (Plain (FileChmod p mode)) = chmod-left f w t p mode
+  row_left (Plain (FileChown p owner group)) = chown-left f w t p owner group
+  row_left (Plain (FileCheckAccess p)) = looks-left f _ _ _ _
   row_left (FileSetTranslator p setting words server) = set_translator-left f t keeps w (resolve_all-renamed f w) p setting words server
-  row_left (FileGetTranslator p) = looks-left f _ _ _ _
-  row_left (FileGetTranslatorCntl p) = cntl-left f w t keeps.none p
-  row_left (FileGetcontrol p) = getcontrol-left f w t keeps.none p
+  row_left (Plain (FileGetTranslator p)) = looks-left f _ _ _ _
+  row_left (Plain (FileGetTranslatorCntl p)) = cntl-left f w t keeps.none p
+  row_left (Plain (FileGetcontrol p)) = getcontrol-left f w t keeps.none p
   row_left (FsysStartup server) = startup-left f t keeps w (resolve_all-renamed f w) server
-  row_left StartFailed = start_failed-left f w t
-  row_left (FsysGetroot c dir flags) = getroot-left f t keeps w c dir flags
-  row_left (FsysGoaway c flags) = goaway-left f w t c flags
-  row_left (FsysGetOptions c) = looks-left f _ _ _ _
-  row_left (FsysSetOptions c words) = set_options-left f w t c words
-  row_left (DirReaddir p) = looks-left f _ _ _ _
-  row_left (DirMkdir p name mode) = mkdir-left f t keeps w p name mode
-  row_left (DirMkfile p flags mode) = mkfile-left f t keeps w p flags mode
-  row_left (DirRmdir p name) = rmdir-left f w t p name
-  row_left (DirUnlink p name) = unlink-left f w t p name
-  row_left (DirLink p name q) = link-left f w t p name q
-  row_left (DirRename p name q new) = rename-left f w t p name q new
+  row_left (Plain StartFailed) = start_failed-left f w t
+  row_left (Plain (FsysGetroot c dir flags)) = getroot-left f t keeps w c dir flags
+  row_left (Plain (FsysGoaway c flags)) = goaway-left f w t c flags
+  row_left (Plain (FsysGetOptions c)) = looks-left f _ _ _ _
+  row_left (Plain (FsysSetOptions c words)) = set_options-left f w t c words
+  row_left (Plain (DirReaddir p)) = looks-left f _ _ _ _
+  row_left (Plain (DirMkdir p name mode)) = mkdir-left f t keeps w p name mode
+  row_left (Plain (DirMkfile p flags mode)) = mkfile-left f t keeps w p flags mode
+  row_left (Plain (DirRmdir p name)) = rmdir-left f w t p name
+  row_left (Plain (DirUnlink p name)) = unlink-left f w t p name
+  row_left (Plain (DirLink p name q)) = link-left f w t p name q
+  row_left (Plain (DirRename p name q new)) = rename-left f w t p name q new
 
 pub after_renamed : AfterRenamed
 after_renamed f w t c keeps = (returning-left f (box_in c) (row w t c) (row (renamed f w) t c) (row_left f w t keeps c)).same w

@@ -5,7 +5,8 @@ use Rattle.std.proofs.Common.{◌≡◌, ◌⊎◌, inl, inr, ℕ, false, List, 
 use Rattle.hurd_machine.proofs.Common.{Call, Errno, Meaning, Mode, OpenFlags, Plan, Reply, World, after_plan, call_by, handing_back, is_refused, refusal, reply_by, told}
 use Rattle.hurd_trans_iface.specs.Meaning.{Begins}
 use Rattle.hurd_machine.specs.declared.call.Call as code
-use Rattle.hurd_machine.specs.declared.call.Call.TheVariants.{DirLookup, FileSetTranslator}
+use Rattle.hurd_machine.specs.declared.call.Call.TheVariants.{Plain, FileSetTranslator}
+use Rattle.hurd_machine.specs.declared.call.PlainCall.TheVariants.{DirLookup}
 use Rattle.hurd_machine.specs.declared.call.Reply as code_reply
 use Rattle.hurd_machine.specs.declared.call.Reply.TheVariants.{Done, Found, Port, Data, Count, Names, Words, Stat, Modes, Same, Refused, Back}
 use Rattle.hurd_machine.specs.declared.call.Lookup as code_lookup
@@ -33,14 +34,14 @@ module _ {S : Type 0} (f : S → Meaning) (v w : World) (t : ℕ) (call : code.C
   owed c got x is same left called back = rw (is, same, left, ← seen) (called, back)
 
   -- a lookup, which may find none where targets are to be looked at
-  pub lookup_row : (p : ℕ) (path : List ℕ) (flags : OpenFlags) (mode : Mode) (r : Result code_lookup.Lookup Errno) (got : code_reply.Reply S) (x : World) → call ≡ DirLookup p path flags mode → reply ≡ got → y ≡ x
+  pub lookup_row : (p : ℕ) (path : List ℕ) (flags : OpenFlags) (mode : Mode) (r : Result code_lookup.Lookup Errno) (got : code_reply.Reply S) (x : World) → call ≡ Plain (DirLookup p path flags mode) → reply ≡ got → y ≡ x
       → got ≡ told_of (λ n. Found n) r → PlannedOr (LookupLacks w t p path flags mode) w (plan_lookup w t p path flags mode) (λ n. Found n) r x → Owes
-  lookup_row p path flags mode (Ok a) got x is same left so h = owed (DirLookup p path flags mode) (Found a) x is (same ∙ so) left (stepped w x t (DirLookup p path flags mode) (Found a) h.0 h.1) tt
+  lookup_row p path flags mode (Ok a) got x is same left so h = owed (Plain (DirLookup p path flags mode)) (Found a) x is (same ∙ so) left (stepped w x t (Plain (DirLookup p path flags mode)) (Found a) h.0 h.1) tt
   lookup_row p path flags mode (Err e) got x is same left so (back, inl bars) =
-      owed (DirLookup p path flags mode) (Refused e) x is (same ∙ so) left
-      (stepped w x t (DirLookup p path flags mode) (Refused e) (ap (λ (P : Plan). P.reply) (sym bars)) (back ∙ ap (λ (P : Plan). after_plan w P) (sym bars))) tt
+      owed (Plain (DirLookup p path flags mode)) (Refused e) x is (same ∙ so) left
+      (stepped w x t (Plain (DirLookup p path flags mode)) (Refused e) (ap (λ (P : Plan). P.reply) (sym bars)) (back ∙ ap (λ (P : Plan). after_plan w P) (sym bars))) tt
   lookup_row p path flags mode (Err e) got x is same left so (back, inr lacks) =
-      owed (DirLookup p path flags mode) (Refused e) x is (same ∙ so) left
+      owed (Plain (DirLookup p path flags mode)) (Refused e) x is (same ∙ so) left
       (inr (record { told = ap (λ (n : Errno). Refused n) lacks.0; takes = refl; needs = λ n. n; wanted = lacks.1; same = back })) tt
 
   -- a call that brings a box, or none

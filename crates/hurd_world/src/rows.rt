@@ -1,6 +1,7 @@
 //! The row of each call.
 ghost use Rattle.hurd_core.specs.Core.{world_of};
 ghost use Rattle.hurd_laws.specs.Called.{Called};
+ghost use Rattle.hurd_machine.specs.declared.call.Call.TheVariants as Variants;
 ghost use Rattle.hurd_machine.specs.Calls.{BringsBegun, call_by, reply_by};
 ghost use Rattle.hurd_world.specs.Held.{ComesBack};
 
@@ -12,7 +13,7 @@ use hurd_files::{access, files};
 use hurd_fsys::{fsys, setting, starting};
 use hurd_io::{io, opens, sharing};
 use hurd_lookup::{getroot, lookup};
-use hurd_machine::{Call, Reply};
+use hurd_machine::{Call, PlainCall, Reply};
 use hurd_rights::rights;
 use hurd_trans_iface::Server;
 use std::alloc::Global;
@@ -28,13 +29,40 @@ pub(crate) fn dispatch<S: Server>(
     ensures { Called (world_of S.meaning core.old) task.0 (call_by S.meaning call) (reply_by S.meaning result) (world_of S.meaning core.new) × ComesBack call result }
 {
     match call {
-        Call::PortDeallocate { port } => replies::done(rights::port_deallocate(core, task, port)),
-        Call::PortSend { port, to } => replies::done(rights::port_send(
+        Call::Plain(call) => dispatch_plain(core, alloc, task, call),
+        Call::FileSetTranslator {
+            port,
+            setting,
+            words,
+            server,
+        } => replies::set(setting::file_set_translator(
+            core, alloc, task, port, setting, words, server,
+        )),
+        Call::FsysStartup { server } => replies::started(starting::fsys_startup(
+            core, alloc, task, server,
+        )),
+    }
+}
+
+/// The same of a call that brings no server.
+fn dispatch_plain<S: Server>(
+    core: &mut Core<S>,
+    alloc: Global,
+    task: TaskId,
+    call: PlainCall,
+) -> Reply<S>
+    ensures { Called (world_of S.meaning core.old) task.0 (Variants.Plain call) (reply_by S.meaning result) (world_of S.meaning core.new) × ComesBack (Variants.Plain call) result }
+{
+    match call {
+        PlainCall::PortDeallocate { port } => replies::done(rights::port_deallocate(
+            core, task, port,
+        )),
+        PlainCall::PortSend { port, to } => replies::done(rights::port_send(
             core, alloc, task, port, to,
         )),
-        Call::PortReceive => replies::port(rights::port_receive(core, task)),
-        Call::AuthMakeauth { ids } => replies::done(rights::auth_makeauth(core, task, ids)),
-        Call::DirLookup {
+        PlainCall::PortReceive => replies::port(rights::port_receive(core, task)),
+        PlainCall::AuthMakeauth { ids } => replies::done(rights::auth_makeauth(core, task, ids)),
+        PlainCall::DirLookup {
             dir,
             path,
             flags,
@@ -48,97 +76,96 @@ pub(crate) fn dispatch<S: Server>(
             flags,
             mode,
         )),
-        Call::IoRead {
+        PlainCall::IoRead {
             port,
             amount,
             offset,
         } => replies::data(io::io_read(core, alloc, task, port, amount, offset)),
-        Call::IoWrite {
+        PlainCall::IoWrite {
             port,
             bytes,
             offset,
         } => replies::count(io::io_write(core, task, port, bytes.as_slice(), offset)),
-        Call::IoSeek {
+        PlainCall::IoSeek {
             port,
             offset,
             whence,
         } => replies::count(opens::io_seek(core, task, port, offset, whence)),
-        Call::IoStat { port } => replies::stat(io::io_stat(core, task, port)),
-        Call::IoReadable { port } => replies::count(opens::io_readable(core, task, port)),
-        Call::IoGetOpenmodes { port } => replies::modes(opens::io_get_openmodes(core, task, port)),
-        Call::IoSetAllOpenmodes { port, flags } => {
-            replies::done(opens::io_set_all_openmodes(core, task, port, flags))
-        }
-        Call::IoDuplicate { port } => replies::port(sharing::io_duplicate(core, alloc, task, port)),
-        Call::IoReauthenticate { port } => {
-            replies::port(sharing::io_reauthenticate(core, alloc, task, port))
-        }
-        Call::IoRestrictAuth { port, ids } => {
-            replies::port(sharing::io_restrict_auth(core, alloc, task, port, ids))
-        }
-        Call::IoIdentity { port, other } => replies::same(sharing::io_identity(
-            core, task, port, other,
-        )),
-        Call::FileSetSize { port, size } => replies::done(files::file_set_size(
-            core, task, port, size,
-        )),
-        Call::FileChmod { port, mode } => replies::done(access::file_chmod(core, task, port, mode)),
-        Call::FileChown { port, owner, group } => {
-            replies::done(access::file_chown(core, task, port, owner, group))
-        }
-        Call::FileCheckAccess { port } => replies::modes(access::file_check_access(
+        PlainCall::IoStat { port } => replies::stat(io::io_stat(core, task, port)),
+        PlainCall::IoReadable { port } => replies::count(opens::io_readable(core, task, port)),
+        PlainCall::IoGetOpenmodes { port } => replies::modes(opens::io_get_openmodes(
             core, task, port,
         )),
-        Call::FileSetTranslator {
-            port,
-            setting,
-            words,
-            server,
-        } => replies::set(setting::file_set_translator(
-            core, alloc, task, port, setting, words, server,
-        )),
-        Call::FileGetTranslator { port } => replies::words(setting::file_get_translator(
+        PlainCall::IoSetAllOpenmodes { port, flags } => {
+            replies::done(opens::io_set_all_openmodes(core, task, port, flags))
+        }
+        PlainCall::IoDuplicate { port } => replies::port(sharing::io_duplicate(
             core, alloc, task, port,
         )),
-        Call::FileGetTranslatorCntl { port } => {
+        PlainCall::IoReauthenticate { port } => {
+            replies::port(sharing::io_reauthenticate(core, alloc, task, port))
+        }
+        PlainCall::IoRestrictAuth { port, ids } => {
+            replies::port(sharing::io_restrict_auth(core, alloc, task, port, ids))
+        }
+        PlainCall::IoIdentity { port, other } => replies::same(sharing::io_identity(
+            core, task, port, other,
+        )),
+        PlainCall::FileSetSize { port, size } => replies::done(files::file_set_size(
+            core, task, port, size,
+        )),
+        PlainCall::FileChmod { port, mode } => replies::done(access::file_chmod(
+            core, task, port, mode,
+        )),
+        PlainCall::FileChown { port, owner, group } => {
+            replies::done(access::file_chown(core, task, port, owner, group))
+        }
+        PlainCall::FileCheckAccess { port } => replies::modes(access::file_check_access(
+            core, task, port,
+        )),
+        PlainCall::FileGetTranslator { port } => replies::words(setting::file_get_translator(
+            core, alloc, task, port,
+        )),
+        PlainCall::FileGetTranslatorCntl { port } => {
             replies::port(fsys::file_get_translator_cntl(core, task, port))
         }
-        Call::FileGetcontrol { port } => replies::port(fsys::file_getcontrol(core, task, port)),
-        Call::FsysStartup { server } => replies::started(starting::fsys_startup(
-            core, alloc, task, server,
+        PlainCall::FileGetcontrol { port } => replies::port(fsys::file_getcontrol(
+            core, task, port,
         )),
-        Call::StartFailed => replies::done(starting::start_failed(core, task)),
-        Call::FsysGetroot {
+        PlainCall::StartFailed => replies::done(starting::start_failed(core, task)),
+        PlainCall::FsysGetroot {
             control,
             dir,
             flags,
         } => replies::found(getroot::fsys_getroot(core, alloc, task, control, dir, flags)),
-        Call::FsysGoaway { control, flags } => replies::done(fsys::fsys_goaway(
+        PlainCall::FsysGoaway { control, flags } => replies::done(fsys::fsys_goaway(
             core, task, control, flags,
         )),
-        Call::FsysGetOptions { control } => replies::words(fsys::fsys_get_options(
+        PlainCall::FsysGetOptions { control } => replies::words(fsys::fsys_get_options(
             core, alloc, task, control,
         )),
-        Call::FsysSetOptions { control, words } => replies::done(fsys::fsys_set_options(
+        PlainCall::FsysSetOptions { control, words } => replies::done(fsys::fsys_set_options(
             core, alloc, task, control, &words,
         )),
-        Call::DirReaddir { port } => replies::names(files::dir_readdir(core, alloc, task, port)),
-        Call::DirMkdir { dir, name, mode } => {
+        PlainCall::DirReaddir { port } => replies::names(files::dir_readdir(
+            core, alloc, task, port,
+        )),
+        PlainCall::DirMkdir { dir, name, mode } => {
             replies::done(make::dir_mkdir(core, alloc, task, dir, name.as_slice(), mode))
         }
-        Call::DirMkfile { dir, flags, mode } => {
+        PlainCall::DirMkfile { dir, flags, mode } => {
             replies::port(file::dir_mkfile(core, alloc, task, dir, flags, mode))
         }
-        Call::DirRmdir { dir, name } => {
+        PlainCall::DirRmdir { dir, name } => {
             replies::done(remove::dir_rmdir(core, task, dir, name.as_slice()))
         }
-        Call::DirUnlink { dir, name } => {
+        PlainCall::DirUnlink { dir, name } => {
             replies::done(remove::dir_unlink(core, task, dir, name.as_slice()))
         }
-        Call::DirLink { dir, name, file } => {
+        PlainCall::DirLink { dir, name, file } => {
             replies::done(link::dir_link(core, alloc, task, dir, name.as_slice(), file))
         }
-        Call::DirRename { dir, name, to, new } => {
+        PlainCall::DirRename { dir, name, to, new } => {
             let (name, new) = (name.as_slice(), new.as_slice());
             replies::done(rename::dir_rename(core, alloc, task, dir, name, to, new))
         }
