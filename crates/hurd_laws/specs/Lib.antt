@@ -5,3 +5,6 @@ pub mod Served
 pub mod Laws
 pub mod Integrity
 pub mod Spared
+pub mod Untold
+pub mod ServedByLooks
+pub mod After

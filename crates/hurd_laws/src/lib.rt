@@ -1,11 +1,14 @@
 //! The step of a call, runs of calls, and the laws on what a set of tasks can learn.
 #![tactic(auto)]
 
+ghost use Rattle.hurd_laws.specs.After.{AfterRenamed, OwnFromLooks};
 ghost use Rattle.hurd_laws.specs.Integrity.{Integrity};
 ghost use Rattle.hurd_laws.specs.Spared.{IntegrityRun};
 ghost use Rattle.hurd_laws.specs.Laws.{ChangesTouched, Confined, ConfinedRun, GoneUnseen, Isolated, IsolatedByView, NeverWantsMemory, OthersUnseen, OwnFromView, QuietUnmoved, SideBySide, StaysSound, ViewSettled};
+ghost use Rattle.hurd_laws.specs.Untold.{NamesUntold, RaisedLooksSame, RenamedSound, SideBySideRenamed};
 
-/// The laws: each clause is one, over the definitions alone, and nothing is computed. `specs/Laws`, `specs/Integrity` and `specs/Spared` say them in words.
+/// The laws: each clause is one, over the definitions alone, and nothing is computed. `specs/Laws`, `specs/Integrity`, `specs/Spared`,
+/// `specs/Untold` and `specs/After` say them in words.
 ///
 /// `integrity`: in a step of a task of a set, a part that the set may not change stays as it was; or it goes, and nobody sees it afterwards; or it is
 /// another's task, to which a right of the set's was sent.
@@ -16,6 +19,15 @@ ghost use Rattle.hurd_laws.specs.Laws.{ChangesTouched, Confined, ConfinedRun, Go
 /// `integrity_run`: over a run, a part that a set may change at none of its own calls, and that no call of the others touches, stays as it was, or went unseen.
 /// A file that is there afterwards has the bytes, the kind, owner, group and mode, and the stored words that it had, where the set had it not open to
 /// write, did not own it, and might not send its server away, at any of its calls, and no call of the others touched it. (Of a stream: nor to read.)
+///
+/// Nodes, servers and opens have names inside the machine, which count what their maker made; six laws say that no call tells them.
+/// `names_untold`: no reply depends on how things are called inside, nor on how many things other tasks made.
+/// `renamed_sound`: a sound world is sound with other names too, if each name's count is below what its task has made.
+/// `side_by_side_renamed`: where a set of tasks makes the same calls in two runs, and each of them in worlds that look the same to it but for
+/// names, it is told the same. `raised_looks_same`: a world where others have made more, which is gone, looks the same but for names; so that law speaks of it.
+/// `after_renamed`: where all that others made has other names, and they have made more, a call leaves the same but for those names.
+/// `own_from_looks`: a call of a set of tasks, made in two worlds that look the same to it but for names of what others made, is told the same, and
+/// they look the same to it afterwards.
 pub fn laws()
     ensures changes_touched { ChangesTouched }
     ensures gone_unseen { GoneUnseen }
@@ -32,4 +44,10 @@ pub fn laws()
     ensures view_settled { ViewSettled }
     ensures integrity { Integrity }
     ensures integrity_run { IntegrityRun }
+    ensures names_untold { NamesUntold }
+    ensures renamed_sound { RenamedSound }
+    ensures side_by_side_renamed { SideBySideRenamed }
+    ensures raised_looks_same { RaisedLooksSame }
+    ensures after_renamed { AfterRenamed }
+    ensures own_from_looks { OwnFromLooks }
 {}

@@ -13,9 +13,9 @@ use Rattle.hurd_machine.proofs.RenamedTasks.{length-renamed, task_at-renamed, us
 use Rattle.hurd_machine.specs.Renamed.{OtherNames, body_renamed, renamed, task_renamed}
 use Rattle.hurd_machine.specs.World.{nodes_of}
 use Rattle.hurd_laws.proofs.Headline.{view_settled}
-use Rattle.hurd_names.proofs.GivenRenamed.{given-renamed}
-use Rattle.hurd_names.proofs.Raised.{stays_given}
-use Rattle.hurd_names.proofs.SoundRenamed.{renamed_sound}
+use Rattle.hurd_laws.proofs.GivenRenamed.{given-renamed}
+use Rattle.hurd_laws.proofs.Raised.{stays_given}
+use Rattle.hurd_laws.proofs.SoundRenamed.{renamed_sound}
 use Rattle.hurd_sight.specs.Looks.{sees_with}
 use Rattle.hurd_sight.specs.Reach.{among}
 use Rattle.hurd_sight.specs.declared.parts.SeenPart.{SeenPart}

@@ -8,7 +8,7 @@ use Rattle.hurd_nodes.specs.Shown.{boot_name}
 use Rattle.hurd_ports.proofs.TaskLaws.{one_or_other}
 use Rattle.hurd_machine.proofs.Common.{Name}
 use Rattle.hurd_machine.specs.Renamed.{OtherNames, task_renamed}
-use Rattle.hurd_names.specs.Untold.{RaisesCounts}
+use Rattle.hurd_laws.specs.Untold.{RaisesCounts}
 use Rattle.hurd_views.specs.Views.{row_at}
 use Rattle.hurd_views.specs.declared.rows.Row.{Row}
 use Rattle.hurd_views.specs.declared.view.View.{View}

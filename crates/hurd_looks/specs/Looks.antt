@@ -5,7 +5,7 @@ use Rattle.hurd_machine.specs.Renamed.{OtherNames}
 use Rattle.hurd_machine.specs.Sound.{Sound}
 use Rattle.hurd_machine.specs.World.{World}
 use Rattle.hurd_sight.specs.Reach.{among}
-use Rattle.hurd_steps.specs.After.{LooksLike}
+use Rattle.hurd_laws.specs.After.{LooksLike}
 use Rattle.hurd_views.specs.Views.{Views}
 use Rattle.hurd_views.specs.declared.view.View.{View}
 use Rattle.hurd_looks.specs.Renamed.{AreAlike}

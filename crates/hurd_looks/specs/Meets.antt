@@ -3,7 +3,7 @@ use Rattle.std.specs.Prelude.{◌≡◌, ◌↔◌, ℕ, Bool, true, false, List
 use Rattle.hurd_creds.specs.declared.name.Name.{Name}
 use Rattle.hurd_nodes.specs.Shown.{boot_name}
 use Rattle.hurd_machine.specs.Renamed.{OtherNames}
-use Rattle.hurd_names.specs.Untold.{RaisesCounts}
+use Rattle.hurd_laws.specs.Untold.{RaisesCounts}
 use Rattle.hurd_sight.specs.Parts.{is_in}
 
 -- pairs of a name and what it is called in the other view

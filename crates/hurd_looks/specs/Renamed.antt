@@ -5,8 +5,8 @@ use Rattle.hurd_creds.specs.declared.name.Name.{Name}
 use Rattle.hurd_creds.specs.declared.attrs.Attrs.{Attrs}
 use Rattle.hurd_machine.specs.Renamed.{OtherNames, open_renamed, task_renamed}
 use Rattle.hurd_ports.specs.Tables.{Task}
-use Rattle.hurd_names.specs.Untold.{RaisesCounts}
-use Rattle.hurd_steps.specs.After.{KeepsOwn}
+use Rattle.hurd_laws.specs.Untold.{RaisesCounts}
+use Rattle.hurd_laws.specs.After.{KeepsOwn}
 use Rattle.hurd_views.specs.Views.{row_at}
 use Rattle.hurd_views.specs.declared.rows.BodyRow.{BodyRow}
 use Rattle.hurd_views.specs.declared.rows.BodyRow.TheVariants as body

@@ -12,8 +12,8 @@ use Rattle.hurd_laws.specs.Step.{reply_of, after}
 use Rattle.hurd_laws.specs.Runs.{run}
 use Rattle.hurd_laws.proofs.Assembled.{stays_sound}
 use Rattle.hurd_laws.proofs.Together.{together}
-use Rattle.hurd_steps.specs.After.{AllLookAlike, LooksLike}
-use Rattle.hurd_steps.proofs.OwnLooks.{own_from_looks}
+use Rattle.hurd_laws.specs.After.{AllLookAlike, LooksLike}
+use Rattle.hurd_laws.proofs.OwnLooks.{own_from_looks}
 use Rattle.hurd_world.specs.Boot.{first_world}
 use Rattle.hurd_world.proofs.FirstWorld.{first_sound}
 use Rattle.hurd_shell.specs.Programs.{Prog, gives, calls, asks}

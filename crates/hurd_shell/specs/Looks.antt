@@ -7,7 +7,7 @@ use Rattle.hurd_machine.specs.Sound.{Sound}
 use Rattle.hurd_script.specs.Commands.{CommandLine}
 use Rattle.hurd_script.specs.Script.{users_of, commands_of}
 use Rattle.hurd_laws.specs.Runs.{run}
-use Rattle.hurd_steps.specs.After.{AllLookAlike, LooksLike}
+use Rattle.hurd_laws.specs.After.{AllLookAlike, LooksLike}
 use Rattle.hurd_world.specs.Boot.{first_world}
 use Rattle.hurd_shell.specs.Isolation.{command_calls, command_part, commands_by, parts_to, worlds_of}
 use Rattle.hurd_shell.specs.Transcript.{Maker, dialogue, dialogue_of, parts_by}

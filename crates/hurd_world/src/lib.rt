@@ -17,6 +17,5 @@ mod world;
 
 pub use hurd_laws::laws;
 pub use hurd_machine::{Call, Lookup, PlainCall, Reply, RetryKind, Whence};
-pub use hurd_names::{names_untold, raised_looks_same, renamed_sound, side_by_side_renamed};
 pub use hurd_touches::Noted;
 pub use world::World;

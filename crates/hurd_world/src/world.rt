@@ -7,7 +7,7 @@ ghost use Rattle.hurd_machine.specs.Sound.{Sound};
 ghost use Rattle.hurd_laws.specs.Called.{Called};
 ghost use Rattle.hurd_laws.specs.Integrity.{KeepsIntegrity};
 ghost use Rattle.hurd_laws.specs.Served.{Served, ComparedRun, IsolatedRun, kept};
-ghost use Rattle.hurd_names.specs.Served.{ComparedByLooks};
+ghost use Rattle.hurd_laws.specs.ServedByLooks.{ComparedByLooks};
 ghost use Rattle.hurd_laws.specs.Spared.{SparesAll};
 ghost use Rattle.hurd_world.specs.Held.{AllBegun, AllComeBack, ComesBack, made_by, state_of, world_of};
 ghost use Rattle.hurd_world.specs.Noting.{NotesWhatIsTouched};

@@ -3,6 +3,12 @@ use Rattle.hurd_laws.proofs.StaysConfined.{confined, confined_run}
 use Rattle.hurd_laws.proofs.Headline.{isolated, isolated_by_view, quiet_unmoved, side_by_side, view_settled}
 use Rattle.hurd_laws.proofs.ReasonsStep.{integrity}
 use Rattle.hurd_laws.proofs.SparedRun.{integrity_run}
+use Rattle.hurd_laws.proofs.Untold.{names_untold}
+use Rattle.hurd_laws.proofs.SoundRenamed.{renamed_sound}
+use Rattle.hurd_laws.proofs.SideBySide.{side_by_side_renamed}
+use Rattle.hurd_laws.proofs.Raised.{raised_looks_same}
+use Rattle.hurd_laws.proofs.After.{after_renamed}
+use Rattle.hurd_laws.proofs.OwnLooks.{own_from_looks}
 use Rattle.hurd_laws.proofs.laws.Goals as goal
 
 pub returns : goal.returns
@@ -22,4 +28,10 @@ returns c = record {
   view_settled = view_settled;
   integrity = integrity;
   integrity_run = integrity_run;
+  names_untold = names_untold;
+  renamed_sound = renamed_sound;
+  side_by_side_renamed = side_by_side_renamed names_untold;
+  raised_looks_same = raised_looks_same;
+  after_renamed = after_renamed;
+  own_from_looks = own_from_looks;
 }

@@ -2,7 +2,7 @@ use Rattle.std.proofs.Common.{◌≡◌, [], arith}
 use Rattle.std.proofs.lemmas.List.{nil_from_length}
 use Rattle.hurd_machine.proofs.Common.{into_iter_items}
 use Rattle.hurd_laws.proofs.Served.{served_sound, served_compared, served_isolated, served_spared}
-use Rattle.hurd_names.proofs.Served.{served_by_looks}
+use Rattle.hurd_laws.proofs.ServedByLooks.{served_by_looks}
 use Rattle.hurd_world.proofs.RunLaws.{none_served, next_served, all_served, all_back, first_begun, rest_begun}
 use Rattle.hurd_world.proofs.world.World.run.Goals as goal
 

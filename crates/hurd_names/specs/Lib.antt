@@ -1,2 +1,0 @@
-pub mod Untold
-pub mod Served
