@@ -16,7 +16,7 @@ use Rattle.hurd_machine.proofs.Edits.{did_whole}
 use Rattle.hurd_machine.proofs.Asks.{IsPlain, ok_plain, err_plain, asked_plain, answered_same, answered_plain, done_plain, first_same, first_ok, given_ok, given_same, stream_same, first_plain, given_plain, handle_same, handle_put, handle_read, handle_plain, asked_seen, ends_alike, handle_seen, written_same, port_same, port_plain, port_seen}
 use Rattle.hurd_machine.proofs.CallLaws.{CallLaws, answered_piece, looking_laws}
 use Rattle.hurd_io.specs.declared.offset.Offset.{Offset}
-use Rattle.hurd_io.specs.declared.offset.Offset.TheVariants.{Place, Cursor}
+use Rattle.hurd_io.specs.declared.offset.Offset.TheVariants.{At, Cursor}
 use Rattle.hurd_io.specs.declared.offset.IoAt.{IoAt}
 use Rattle.hurd_io.specs.Io.{io_at, offset_of, past, moved, Moves, plan_io, touches_io, read_asks, reads, plan_read, touches_read, write_asks, write_cursor, writes, plan_write, touches_write, stat_asks, plan_stat, touches_stat}
 use Rattle.hurd_trans_iface.proofs.Goods.{good}
@@ -34,7 +34,7 @@ offset_plain (negsuc (suc n)) = err_plain _ refl
 -- a cursor that moves, or doesn't
 
 moved_whole : {t : ℕ} {T : Part → Type 0} {v w : World} → Sound w → (offset : Offset) (stream : Bool) (o : Name) (k : ℕ) → ((p : Part) → Moves offset stream o p → T p) → Whole t T v w (moved offset stream o k)
-moved_whole s (Place n) stream o k parts = whole_none s
+moved_whole s (At n) stream o k parts = whole_none s
 moved_whole s Cursor true o k parts = whole_none s
 moved_whole s Cursor false o k parts = cursor_whole s o (parts _ refl) k
 

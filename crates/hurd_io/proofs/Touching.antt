@@ -5,14 +5,14 @@ use Rattle.hurd_machine.proofs.Common.{Change, Did, EditOpen, Errno, Name, OnDid
 use Rattle.hurd_machine.specs.declared.handle.Handle.{Handle}
 use Rattle.hurd_machine.proofs.Asks.{first_ok, given_ok}
 use Rattle.hurd_io.specs.declared.offset.Offset.{Offset}
-use Rattle.hurd_io.specs.declared.offset.Offset.TheVariants.{Place, Cursor}
+use Rattle.hurd_io.specs.declared.offset.Offset.TheVariants.{At, Cursor}
 use Rattle.hurd_io.specs.declared.offset.IoAt.{IoAt}
 use Rattle.hurd_ports.specs.declared.table.Opened.{Opened}
 use Rattle.hurd_ports.specs.Steps.{at_cursor}
 use Rattle.hurd_io.specs.Io.{moved, Moves, io_at, offset_of, read_asks, reads, touches_read, write_asks, write_cursor, writes, touches_write}
 
 moves_open : (f : Offset) (stream : Bool) (o : Name) (p : Part) → Moves f stream o p → p ≡ OpenOf o
-moves_open (Place n) stream o p on = absurd on
+moves_open (At n) stream o p on = absurd on
 moves_open Cursor true o p on = absurd on
 moves_open Cursor false o p on = on
 
@@ -70,7 +70,7 @@ write_touches w t p bytes offset k = parts_of (write_asks w t p offset) _ k (λ 
 
 -- what holds of no changes, and of a cursor that goes to a place, each of whatever open, holds of what moves a cursor
 pub moved_alike : (P : (Name → List Change) → Type 0) → P (λ o. []) → ((k : ℕ) → P (λ o. EditOpen o (at_cursor k) ∷ [])) → (f : Offset) (stream : Bool) (k : ℕ) → P (λ o. moved f stream o k)
-moved_alike P none one (Place n) stream k = none
+moved_alike P none one (At n) stream k = none
 moved_alike P none one Cursor true k = none
 moved_alike P none one Cursor false k = one k
 

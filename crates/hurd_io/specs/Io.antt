@@ -17,7 +17,7 @@ use Rattle.hurd_machine.specs.Calls.{Reply}
 use Rattle.hurd_machine.specs.declared.call.Reply.TheVariants.{Data, Count}
 use Rattle.hurd_machine.specs.declared.call.Reply.TheVariants as reply
 pub use Rattle.hurd_io.specs.declared.offset.Offset.{Offset}
-use Rattle.hurd_io.specs.declared.offset.Offset.TheVariants.{Place, Cursor}
+use Rattle.hurd_io.specs.declared.offset.Offset.TheVariants.{At, Cursor}
 pub use Rattle.hurd_io.specs.declared.offset.IoAt.{IoAt}
 use Rattle.hurd_machine.specs.World.{World, active_at, asked_at, nodes_of, readers_at, stream_at, writers_at}
 use Rattle.hurd_machine.specs.Change.{Change, EditOpen, changes_of}
@@ -28,12 +28,12 @@ use Rattle.hurd_machine.specs.Touched.{asked_parts, Nothing, OnDid}
 
 -- an offset is a place, or, for -1, the cursor; any other below 0 is refused
 abbrev pub offset_of : ℤ → Result Offset Errno
-offset_of (pos n) = Ok (Place n)
+offset_of (pos n) = Ok (At n)
 offset_of (negsuc zero) = Ok Cursor
 offset_of (negsuc (suc n)) = Err EINVAL
 
 abbrev pub place_of : Offset → ℕ → ℕ
-place_of (Place n) cursor = n
+place_of (At n) cursor = n
 place_of Cursor cursor = cursor
 
 -- where a call on what a port has open begins, if the cursor stands there; `stream`: on a stream
@@ -51,13 +51,13 @@ past at count = min (at + count) i64_greatest
 
 -- a call that began at the cursor moves it, but not on a stream
 abbrev pub moved : Offset → Bool → Name → ℕ → List Change
-moved (Place n) stream o to = []
+moved (At n) stream o to = []
 moved Cursor true o to = []
 moved Cursor false o to = EditOpen o (at_cursor to) ∷ []
 
 -- and so touches the open
 abbrev pub Moves : Offset → Bool → Name → Part → Type 0
-Moves (Place n) stream o p = ⊥
+Moves (At n) stream o p = ⊥
 Moves Cursor true o p = ⊥
 Moves Cursor false o p = p ≡ OpenOf o
 

@@ -15,7 +15,7 @@ pub(crate) const MOST_PLACE: u64 = 9223372036854775807;
 /// Where a call is to begin: at a place, or at the open's cursor.
 #[derive(Clone, Copy, Debug, PartialEq, Eq)]
 pub(crate) enum Offset {
-    Place(u64),
+    At(u64),
     Cursor,
 }
 
@@ -26,7 +26,7 @@ impl Offset {
     {
         match offset {
             -1 => Ok(Offset::Cursor),
-            0.. => Ok(Offset::Place(offset as u64)),
+            0.. => Ok(Offset::At(offset as u64)),
             _ => Err(Errno::EINVAL),
         }
     }
@@ -36,7 +36,7 @@ impl Offset {
         ensures { result ≡ place_of self cursor }
     {
         match self {
-            Offset::Place(place) => place,
+            Offset::At(place) => place,
             Offset::Cursor => cursor,
         }
     }
@@ -79,7 +79,7 @@ impl IoAt {
             ≡ apply_all (moved self.offset self.is_stream self.open_name (past self.at count)) (world_of S.meaning core.old) }
     {
         match self.offset {
-            Offset::Place(_) => {}
+            Offset::At(_) => {}
             Offset::Cursor => {
                 if !self.is_stream {
                     core.move_cursor(self.open_name, past(self.at, count));

@@ -10,7 +10,7 @@ use Rattle.hurd_ports.proofs.TaskLaws.{edit-apart, edit-length}
 use Rattle.hurd_machine.specs.Change.{settle, next_nodes, next_sites, next_opens, next_tasks}
 use Rattle.hurd_machine.proofs.Nodes.{attr_same, header_in, body_in, empty_in, header-with_body, body-with_header, edit_keeps, KeepsEmptiness, empty-kept, by_option}
 use Rattle.hurd_machine.proofs.Tasks.{count_edit, count_named, count_sent}
-use Rattle.hurd_machine.proofs.Coherence.{IsPlain, next_not, no_home, no_open, settled_apart, Proper, AllProper, no_node}
+use Rattle.hurd_machine.proofs.Coherence.{LeavesSeats, next_not, no_home, no_open, settled_apart, Proper, AllProper, no_node}
 use Rattle.hurd_machine.proofs.Keeping.{coherent_one}
 use Rattle.hurd_machine.proofs.Views.{Agree, Agree-trans}
 use Rattle.hurd_machine.specs.Touched.{Goes}
@@ -99,7 +99,7 @@ next_world c w = record {
   tasks = next_tasks c w.tasks;
 }
 
-pub next_is : (c : Change) (w : World) → IsPlain c → apply c w ≡ next_world c w
+pub next_is : (c : Change) (w : World) → LeavesSeats c → apply c w ≡ next_world c w
 next_is (Attach s at i node) w p = absurd p
 next_is (DropServer s) w p = absurd p
 next_is (Unseat n) w p = absurd p

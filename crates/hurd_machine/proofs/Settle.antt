@@ -22,7 +22,7 @@ use Rattle.hurd_machine.proofs.Holders.{held_by_right, KeepsRights, NameMore, st
 use Rattle.hurd_creds.proofs.Retained.{retained_if, retained, dropped, was_retained, none_retained}
 use Rattle.hurd_machine.proofs.Stays.{info_still, sweep, way_at, way_parent, server_more, kept_more, lives_at, lives_active, lives_controlled, stays_entered, stays_named, stays_target, held_more}
 use Rattle.hurd_machine.proofs.Swept.{root_stays, boot_stays, entry_stays, parent_stays, settle_keeps}
-use Rattle.hurd_machine.proofs.Coherence.{IsPlain, was, entry_lists, home_server}
+use Rattle.hurd_machine.proofs.Coherence.{LeavesSeats, was, entry_lists, home_server}
 use Rattle.hurd_machine.proofs.Texts.{server_was, held_yet, stays_kept}
 use Rattle.hurd_machine.proofs.Rights.{port_keeps, port_has}
 use Rattle.hurd_machine.proofs.Views.{Agree, Agree-refl, Agree-trans, text_known}
@@ -213,7 +213,7 @@ abbrev pub KeepsNodes : World → Change → Type 0
 KeepsNodes w (EditHeader n f) = KeepsEntered f
 KeepsNodes w (MakeNode n s node) = (is_entered node.header ≡ true) × (home_at w n ≡ None) × (i : ServerInfo) × (server_at w s ≡ Some i)
 KeepsNodes w (EditTask q f) = KeepsRights f
-KeepsNodes w c = IsPlain c
+KeepsNodes w c = LeavesSeats c
 
 -- what stands after an edit stood before
 stood : (m : NodeMap) (k n : Name) (f : Node → Node) (x : Node) → get (edit k f m) n ≡ Some x → (y : Node) × (get m n ≡ Some y)

@@ -19,7 +19,7 @@ abbrev pub NoByte : ℕ → List ℕ → Type 0
 NoByte c w = All (λ b. nat_eq b c ≡ false) w
 
 -- a word that spells itself
-record IsPlain (w : List ℕ) : Type 0 where
+record SpellsItself (w : List ℕ) : Type 0 where
   visible : has_hidden_byte w ≡ false
   text : text_of w ≡ Some w
   bytes : has_bytes w ≡ true
@@ -34,7 +34,7 @@ AreDeclared earlier = filter_map declared_name earlier ≡ codes "alice" ∷ cod
 
 -- a user of a sample, whose line is neither skipped nor a user line
 record IsName (w : List ℕ) : Type 0 where
-  plain : IsPlain w
+  plain : SpellsItself w
   said : (rest : List ℕ) → is_skipped (w ++ rest) ≡ false
   other : (words : List (List ℕ)) → begins_with (codes "user") (w ∷ words) ≡ false
   known : is_none (task_of sample_names w) ≡ false
@@ -44,7 +44,7 @@ unfolding text_after
 name Root = record { plain = record { visible = refl; text = refl; bytes = refl }; said = λ _. refl; other = λ _. refl; known = refl }
 name _ = record { plain = record { visible = refl; text = refl; bytes = refl }; said = λ _. refl; other = λ _. refl; known = refl }
 
-verb : (v : Verb) → IsPlain (verb_word v) × (verb_of (verb_word v) ≡ Some v)
+verb : (v : Verb) → SpellsItself (verb_word v) × (verb_of (verb_word v) ≡ Some v)
 unfolding text_after
 verb Cat = (record { visible = refl; text = refl; bytes = refl }, refl)
 verb _ = (record { visible = refl; text = refl; bytes = refl }, refl)

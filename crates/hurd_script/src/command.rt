@@ -4,7 +4,7 @@ ghost use Rattle.hurd_script.specs.Actions.{action_of};
 ghost use Rattle.hurd_script.specs.Commands.{CommandLine, verb_of};
 
 use crate::actions;
-use crate::places::Place;
+use crate::places::EntryPlace;
 use crate::settrans::SettransFlags;
 use hurd_creds::{Bytes, Mode, TaskId};
 use hurd_trans_iface::Words;
@@ -47,22 +47,22 @@ pub enum Action {
         text: Bytes,
     },
     Mkdir {
-        place: Place,
+        place: EntryPlace,
     },
     Rm {
-        place: Place,
+        place: EntryPlace,
     },
     Rmdir {
-        place: Place,
+        place: EntryPlace,
     },
     /// A new entry for a file.
     Ln {
         file: Bytes,
-        new: Place,
+        new: EntryPlace,
     },
     Mv {
-        old: Place,
-        new: Place,
+        old: EntryPlace,
+        new: EntryPlace,
     },
     Chmod {
         mode: Mode,

@@ -22,6 +22,6 @@ mod usage;
 
 pub use command::{Action, Command, Verb, same_texts};
 pub use flaw::ScriptFlaw;
-pub use places::Place;
+pub use places::EntryPlace;
 pub use reader::{Script, ScriptFault, parse_script};
 pub use settrans::SettransFlags;

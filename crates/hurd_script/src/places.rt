@@ -7,7 +7,7 @@ use std::alloc::{AllocError, Global};
 
 /// A directory, by its path, and a name in it: where a command makes, removes or finds an entry.
 #[derive(Debug, Drop)]
-pub struct Place {
+pub struct EntryPlace {
     /// The path up to and with its last slash, or the empty path.
     pub directory: Bytes,
     /// The name behind that; the empty name where the path is empty or of slashes alone.
@@ -38,18 +38,18 @@ fn up_to_slash(path: &[u8]) -> &[u8]
 }
 
 /// The path without its last name, and that name.
-fn split_at_slash(alloc: Global, path: &[u8]) -> Result<Place, AllocError>
+fn split_at_slash(alloc: Global, path: &[u8]) -> Result<EntryPlace, AllocError>
     ensures { IfOk result (λ place. place ≡ split_at_slash path.now) }
 {
     let directory = up_to_slash(path);
-    Ok(Place {
+    Ok(EntryPlace {
         directory: Bytes::copied(alloc, directory)?,
         name: Bytes::copied(alloc, &path[directory.len()..])?,
     })
 }
 
 /// The place that a node's path names.
-pub fn place_of(alloc: Global, node: &[u8]) -> Result<Place, AllocError>
+pub fn place_of(alloc: Global, node: &[u8]) -> Result<EntryPlace, AllocError>
     ensures { IfOk result (λ place. place ≡ place_of node.now) }
 {
     split_at_slash(alloc, without_slashes(node))

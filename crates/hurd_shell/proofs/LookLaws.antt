@@ -9,11 +9,11 @@ use Rattle.hurd_machine.specs.declared.call.PlainCall.TheVariants.{IoReauthentic
 use Rattle.hurd_world.specs.Noting.{State}
 use Rattle.hurd_shell.specs.declared.fault.Stop.{Stop}
 use Rattle.hurd_shell.specs.declared.fault.Stop.TheVariants.{Refused, Memory}
-use Rattle.hurd_shell.specs.declared.looking.Looked.{Looked}
+use Rattle.hurd_shell.specs.declared.looking.LookupAnswer.{LookupAnswer}
 use Rattle.hurd_shell.specs.declared.looking.Opening.{Opening}
-use Rattle.hurd_shell.specs.declared.looking.Outcome.{Outcome}
+use Rattle.hurd_shell.specs.declared.looking.TurnEnd.{TurnEnd}
 use Rattle.hurd_shell.specs.declared.looking.Reached.TheVariants.{Opened, Waits}
-use Rattle.hurd_shell.specs.declared.looking.Retry.TheVariants.{Reauth}
+use Rattle.hurd_shell.specs.declared.looking.NextLookup.TheVariants.{Reauth}
 use Rattle.hurd_shell.specs.Programs.{Prog, gives, asks, tried, bind, on_ok, made, closing, port_of, unread}
 use Rattle.hurd_shell.specs.Looking.{Opener, looking, most_retries, start_of, too_many, not_started, start_with, starting, followed, arrived, look, open_node}
 use Rattle.hurd_shell.specs.Progress.{Leads, Does, ComesTo, Comes, ReachesTo, Reaches, opening_on, releasing}
@@ -79,7 +79,7 @@ comes_err {r = Ok b} gone d = absurd gone.1
 comes_err {r = Err e} {left = left} {next = next} gone d = record { comes = rw gone.1 (passed _ _ _ _ left next _ _ d.comes) }
 
 -- a turn whose lookup is answered
-pub turn_leads : {t : ℕ} {l : Looked} {w x : State} (left : ℕ) (flags : OpenFlags) (dir : ℕ) (name held : List ℕ) → Does t (looking flags dir name) w (Ok l) x
+pub turn_leads : {t : ℕ} {l : LookupAnswer} {w x : State} (left : ℕ) (flags : OpenFlags) (dir : ℕ) (name held : List ℕ) → Does t (looking flags dir name) w (Ok l) x
     → Leads t (releasing held (look (suc left) flags dir name)) w (releasing held (arrived (followed (look left flags)) (starting (look left flags dir name)) l)) x
 unfolding look
 turn_leads left flags dir name held d = held_ok held (arrived (followed (look left flags)) (starting (look left flags dir name))) d
@@ -91,7 +91,7 @@ unfolding look
 turn_err left flags dir name held gone d = held_err held (arrived (followed (look left flags)) (starting (look left flags dir name))) gone d
 
 -- the last turn, whose lookup is answered
-pub last_leads : {t : ℕ} {l : Looked} {w x : State} (flags : OpenFlags) (dir : ℕ) (name held : List ℕ) → Does t (looking flags dir name) w (Ok l) x
+pub last_leads : {t : ℕ} {l : LookupAnswer} {w x : State} (flags : OpenFlags) (dir : ℕ) (name held : List ℕ) → Does t (looking flags dir name) w (Ok l) x
     → Leads t (releasing held (look zero flags dir name)) w (releasing held (arrived too_many not_started l)) x
 unfolding look
 last_leads flags dir name held d = held_ok held (arrived too_many not_started) d
@@ -122,7 +122,7 @@ sub_one : (n : ℕ) → suc n - 1 ≡ n
 sub_one n = omega arith
 
 -- a turn, where some are left
-pub turn_left : {t : ℕ} {r : Result Outcome Stop} {w x : State} {held : List ℕ} (before : List ℕ) (left : ℕ) (flags : OpenFlags) (dir : ℕ) (name : List ℕ) → 0 < left
+pub turn_left : {t : ℕ} {r : Result TurnEnd Stop} {w x : State} {held : List ℕ} (before : List ℕ) (left : ℕ) (flags : OpenFlags) (dir : ℕ) (name : List ℕ) → 0 < left
     → ((n : ℕ) → Comes t (releasing before (look (suc n) flags dir name)) w (opening_on (look n flags)) held r x)
     → Comes t (releasing before (look left flags dir name)) w (opening_on (look (left - 1) flags)) held r x
 turn_left before zero flags dir name some l = absurd (omega arith)

@@ -17,7 +17,7 @@ use Rattle.hurd_machine.specs.declared.call.PlainCall.TheVariants.{IoRead, IoWri
 use Rattle.hurd_machine.specs.declared.call.Setting.{Setting}
 use Rattle.hurd_script.specs.declared.command.Action.{Action}
 use Rattle.hurd_script.specs.declared.command.Action.TheVariants.{Cat, Ls, Stat, Put, Mkdir, Rm, Rmdir, Ln, Mv, Chmod, Chown, Showtrans, Fsysopts, Settrans, Usage}
-use Rattle.hurd_script.specs.declared.places.Place.{Place}
+use Rattle.hurd_script.specs.declared.places.EntryPlace.{EntryPlace}
 use Rattle.hurd_script.specs.declared.settrans.SettransFlags.{SettransFlags}
 use Rattle.hurd_shell.specs.declared.commands.Printed.{Printed}
 use Rattle.hurd_shell.specs.Looking.{open_node}
@@ -186,7 +186,7 @@ abbrev pub to_enter : OpenFlags
 to_enter = record { 0 = DIRECTORY }
 
 -- the directory of a place is opened, worked on with the name in it, and given up
-abbrev pub in_place : Place → (ℕ → List ℕ → Prog Printed) → Prog Printed
+abbrev pub in_place : EntryPlace → (ℕ → List ℕ → Prog Printed) → Prog Printed
 in_place place k = with_open place.directory to_enter (λ p. k p place.name)
 
 -- mkdir: a directory is made
@@ -202,11 +202,11 @@ abbrev pub rmdir : ℕ → List ℕ → Prog Printed
 rmdir p name = silent (made (Plain (DirRmdir p name)) done_of)
 
 -- ln: an open file is given another name
-abbrev pub ln : Place → ℕ → Prog Printed
+abbrev pub ln : EntryPlace → ℕ → Prog Printed
 ln new file = in_place new (λ p name. silent (made (Plain (DirLink p name file)) done_of))
 
 -- mv: an entry of an open directory is moved to another name, there or elsewhere
-abbrev pub mv : Place → ℕ → List ℕ → Prog Printed
+abbrev pub mv : EntryPlace → ℕ → List ℕ → Prog Printed
 mv new p name = in_place new (λ q fresh. silent (made (Plain (DirRename p name q fresh)) done_of))
 
 -- the program of what a command asks for

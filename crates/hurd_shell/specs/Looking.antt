@@ -17,10 +17,10 @@ use Rattle.hurd_machine.specs.declared.call.Lookup.TheVariants as found
 use Rattle.hurd_machine.specs.Calls.{Reply}
 use Rattle.hurd_machine.specs.declared.call.Reply.TheVariants as reply
 use Rattle.hurd_machine.specs.declared.call.RetryKind.TheVariants as kind
-use Rattle.hurd_shell.specs.declared.looking.Looked.{Looked}
-use Rattle.hurd_shell.specs.declared.looking.Looked.TheVariants.{Opened, Retried, Started}
-use Rattle.hurd_shell.specs.declared.looking.Retry.{Retry}
-use Rattle.hurd_shell.specs.declared.looking.Retry.TheVariants.{Normal, Reauth, Magical}
+use Rattle.hurd_shell.specs.declared.looking.LookupAnswer.{LookupAnswer}
+use Rattle.hurd_shell.specs.declared.looking.LookupAnswer.TheVariants.{Opened, Retried, Started}
+use Rattle.hurd_shell.specs.declared.looking.NextLookup.{NextLookup}
+use Rattle.hurd_shell.specs.declared.looking.NextLookup.TheVariants.{Normal, Reauth, Magical}
 use Rattle.hurd_shell.specs.Programs.{Prog, gives, asks, bind, made, closing, port_of, started_of, unread}
 
 -- the port of a task's root
@@ -45,7 +45,7 @@ abbrev pub file_mode : Mode
 file_mode = record { 0 = 420 }
 
 -- what a lookup is answered: the opened node, a retry, which has a port unless it is magical, or a translator that is to be started
-abbrev pub looked_of : Reply → Result Looked Errno
+abbrev pub looked_of : Reply → Result LookupAnswer Errno
 looked_of (reply.Found (found.Done p)) = Ok (Opened p)
 looked_of (reply.Found (found.Retry kind.Normal name (Some p))) = Ok (Retried (Normal name p))
 looked_of (reply.Found (found.Retry kind.Reauth name (Some p))) = Ok (Retried (Reauth name p))
@@ -55,7 +55,7 @@ looked_of (reply.Refused e) = Err e
 looked_of _ = Err EIO
 
 -- one lookup
-abbrev pub looking : OpenFlags → ℕ → List ℕ → Prog Looked
+abbrev pub looking : OpenFlags → ℕ → List ℕ → Prog LookupAnswer
 looking flags dir name = made (Plain (DirLookup dir name flags file_mode)) looked_of
 
 -- a way to open a name at a port
@@ -81,13 +81,13 @@ placed opener None = gives (Err ENOENT)
 placed opener (Some place) = opener place.0 place.1
 
 -- following a retry: its name is opened at its port, at the port that the task's own ids give, or where the magical name says, and then its ports are given up
-abbrev pub followed : Opener → Retry → Prog ℕ
+abbrev pub followed : Opener → NextLookup → Prog ℕ
 followed opener (Normal name p) = closing p (opener p name)
 followed opener (Reauth name p) = closing p (bind (made (Plain (IoReauthenticate p)) port_of) (λ own. closing own (opener own name)))
 followed opener (Magical name) = placed opener (magical_place name)
 
 -- a retry too many: it is ELOOP, and its port is given up
-abbrev pub too_many : Retry → Prog ℕ
+abbrev pub too_many : NextLookup → Prog ℕ
 too_many (Normal name p) = closing p (gives (Err ELOOP))
 too_many (Reauth name p) = closing p (gives (Err ELOOP))
 too_many (Magical name) = gives (Err ELOOP)
@@ -106,7 +106,7 @@ abbrev pub starting : Prog ℕ → List (List ℕ) → Prog ℕ
 starting again words = asks words (λ server. bind (start_with server) (λ u. again))
 
 -- what an answer leads to: the opened node is the end, and a retry and a start go on
-abbrev pub arrived : (Retry → Prog ℕ) → (List (List ℕ) → Prog ℕ) → Looked → Prog ℕ
+abbrev pub arrived : (NextLookup → Prog ℕ) → (List (List ℕ) → Prog ℕ) → LookupAnswer → Prog ℕ
 arrived goes_on starts (Opened p) = gives (Ok p)
 arrived goes_on starts (Retried retry) = goes_on retry
 arrived goes_on starts (Started words) = starts words

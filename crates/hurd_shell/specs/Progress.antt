@@ -9,10 +9,10 @@ use Rattle.hurd_world.specs.Held.{Whole, state_of}
 use Rattle.hurd_world.specs.Noting.{State, NotesWhatIsTouched}
 use Rattle.hurd_shell.specs.declared.fault.Stop.{Stop}
 use Rattle.hurd_shell.specs.declared.fault.Stop.TheVariants.{Refused, Memory}
-use Rattle.hurd_shell.specs.declared.looking.Outcome.{Outcome}
-use Rattle.hurd_shell.specs.declared.looking.Outcome.TheVariants as outcome
-use Rattle.hurd_shell.specs.declared.looking.Found.{Found}
-use Rattle.hurd_shell.specs.declared.looking.Found.TheVariants as found
+use Rattle.hurd_shell.specs.declared.looking.TurnEnd.{TurnEnd}
+use Rattle.hurd_shell.specs.declared.looking.TurnEnd.TheVariants as outcome
+use Rattle.hurd_shell.specs.declared.looking.LookingEnd.{LookingEnd}
+use Rattle.hurd_shell.specs.declared.looking.LookingEnd.TheVariants as found
 use Rattle.hurd_shell.specs.declared.looking.Target.{Target}
 use Rattle.hurd_shell.specs.Programs.{Prog, gives, closing, go}
 use Rattle.hurd_shell.specs.Looking.{Opener, look, starting}
@@ -56,13 +56,13 @@ abbrev pub opening : Opener → Target → Prog ℕ
 opening opener target = opener target.dir target.name
 
 -- what is left of an opening after a turn
-abbrev pub opening_on : Opener → Outcome → Prog ℕ
+abbrev pub opening_on : Opener → TurnEnd → Prog ℕ
 opening_on opener (outcome.Opened p) = gives (Ok p)
 opening_on opener (outcome.Onward target) = opening opener target
 opening_on opener (outcome.Starts words target) = starting (opening opener target) words
 
 -- what is left of an opening that has found its node, or a translator that is to be started
-abbrev pub found_on : OpenFlags → Found → Prog ℕ
+abbrev pub found_on : OpenFlags → LookingEnd → Prog ℕ
 found_on flags (found.Opened p) = gives (Ok p)
 found_on flags (found.Starts words left target) = starting (opening (look left flags) target) words
 

@@ -12,7 +12,7 @@ ghost use Rattle.hurd_shell.specs.Looking.{file_mode, looked_of, looking};
 ghost use Rattle.hurd_shell.specs.Progress.{Ran, Stepped, stopped};
 
 use crate::fault::{NoMemory, Stop};
-use crate::looking::{Looked, Retry};
+use crate::looking::{LookupAnswer, NextLookup};
 use hurd_creds::{Bytes, Errno, MOST_READ, Mode, OpenFlags, Stat, TaskId};
 use hurd_machine::Setting;
 use hurd_trans_iface::{Names, Server, Words};
@@ -59,13 +59,19 @@ fn made<S: Server>(
 }
 
 /// A retry, which has a port unless it is magical.
-fn retry_of(kind: RetryKind, name: Bytes, port: Option<u64>) -> Result<Looked, Stop>
+fn retry_of(kind: RetryKind, name: Bytes, port: Option<u64>) -> Result<LookupAnswer, Stop>
     ensures { result ≡ stopped (looked_of (Reply.Found (Lookup.Retry kind name port))) }
 {
     match (kind, port) {
-        (RetryKind::Normal, Some(port)) => Ok(Looked::Retried(Retry::Normal { name, port })),
-        (RetryKind::Reauth, Some(port)) => Ok(Looked::Retried(Retry::Reauth { name, port })),
-        (RetryKind::Magical, None) => Ok(Looked::Retried(Retry::Magical { name })),
+        (RetryKind::Normal, Some(port)) => Ok(LookupAnswer::Retried(NextLookup::Normal {
+            name,
+            port,
+        })),
+        (RetryKind::Reauth, Some(port)) => Ok(LookupAnswer::Retried(NextLookup::Reauth {
+            name,
+            port,
+        })),
+        (RetryKind::Magical, None) => Ok(LookupAnswer::Retried(NextLookup::Magical { name })),
         (RetryKind::Normal, None) | (RetryKind::Reauth, None) | (RetryKind::Magical, Some(_)) => {
             Err(Stop::Refused(Errno::EIO))
         }
@@ -73,13 +79,13 @@ fn retry_of(kind: RetryKind, name: Bytes, port: Option<u64>) -> Result<Looked, S
 }
 
 /// What a lookup was answered.
-fn looked_of<S: Server>(reply: Reply<S>) -> Result<Looked, Stop>
+fn looked_of<S: Server>(reply: Reply<S>) -> Result<LookupAnswer, Stop>
     ensures { result ≡ stopped (looked_of (reply_by S.meaning reply)) }
 {
     match reply {
-        Reply::Found(Lookup::Done(port)) => Ok(Looked::Opened(port)),
+        Reply::Found(Lookup::Done(port)) => Ok(LookupAnswer::Opened(port)),
         Reply::Found(Lookup::Retry { kind, name, port }) => retry_of(kind, name, port),
-        Reply::Found(Lookup::Start { words }) => Ok(Looked::Started(words)),
+        Reply::Found(Lookup::Start { words }) => Ok(LookupAnswer::Started(words)),
         Reply::Refused(errno) => Err(Stop::Refused(errno)),
         Reply::Done
         | Reply::Port(_)
@@ -272,7 +278,7 @@ pub(crate) fn look_up<S: Server>(
     dir: u64,
     path: Bytes,
     flags: OpenFlags,
-) -> Result<Looked, Stop>
+) -> Result<LookupAnswer, Stop>
     ensures { Ran S.meaning task.0 (looking flags dir path) world.old result world.new }
 {
     let call = Call::Plain(PlainCall::DirLookup {

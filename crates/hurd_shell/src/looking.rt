@@ -32,7 +32,7 @@ const MOST_RETRIES: u32 = 32;
 
 /// Where a lookup goes on.
 #[derive(Debug, Drop)]
-pub(crate) enum Retry {
+pub(crate) enum NextLookup {
     /// At this port.
     Normal { name: Bytes, port: u64 },
     /// At the port that `io_reauthenticate` makes of this one.
@@ -43,10 +43,10 @@ pub(crate) enum Retry {
 
 /// What a lookup was answered.
 #[derive(Debug, Drop)]
-pub(crate) enum Looked {
+pub(crate) enum LookupAnswer {
     /// The node's port.
     Opened(u64),
-    Retried(Retry),
+    Retried(NextLookup),
     /// A translator of these words is to be started.
     Started(Words),
 }
@@ -60,7 +60,7 @@ pub(crate) struct Target {
 
 /// What a turn comes to.
 #[derive(Debug, Drop)]
-pub(crate) enum Outcome {
+pub(crate) enum TurnEnd {
     /// The node's port.
     Opened(u64),
     /// Another turn, for this target.
@@ -71,7 +71,7 @@ pub(crate) enum Outcome {
 
 /// What turns come to.
 #[derive(Debug, Drop)]
-pub(crate) enum Found {
+pub(crate) enum LookingEnd {
     /// The node's port.
     Opened(u64),
     /// A translator of these words is to be started; then there are so many turns left, and this is the target.
@@ -138,7 +138,7 @@ fn give_up<S: Server>(
 /// Follows a normal retry: its name is opened at its port.
 fn normal(name: Bytes, port: u64, held: &mut Vec<u64>) -> Result<Target, AllocError>
     ensures { IfOk result (λ target. (opener : written.Opener) → releasing held.new.items (opening opener target)
-        ≡ releasing held.old.items (written.followed opener (Retry.Normal name port))) }
+        ≡ releasing held.old.items (written.followed opener (NextLookup.Normal name port))) }
 {
     hold(held, port)?;
     Ok(Target { dir: port, name })
@@ -153,7 +153,7 @@ fn reauthenticated<S: Server>(
     port: u64,
     held: &mut Vec<u64>,
 ) -> Result<Target, Stop>
-    ensures { (opener : written.Opener) → Went S.meaning task.0 held.old.items (written.followed opener (Retry.Reauth name port)) world.old
+    ensures { (opener : written.Opener) → Went S.meaning task.0 held.old.items (written.followed opener (NextLookup.Reauth name port)) world.old
         (opening opener) held.new.items result world.new }
 {
     hold(held, port)?;
@@ -200,7 +200,7 @@ fn magical_place(name: &[u8]) -> Option<(u64, &[u8])>
 /// Follows a magical retry: its name is opened at the root, or at a port of the task's own.
 fn magical(alloc: Global, name: Bytes) -> Result<Target, Stop>
     ensures { (t : ℕ) (held : List ℕ) (w : State) (opener : written.Opener)
-        → Comes t (releasing held (written.followed opener (Retry.Magical name))) w (opening opener) held result w }
+        → Comes t (releasing held (written.followed opener (NextLookup.Magical name))) w (opening opener) held result w }
 {
     let Some((dir, rest)) = magical_place(name.as_slice()) else {
         return Err(Stop::Refused(Errno::ENOENT));
@@ -216,27 +216,27 @@ fn follow<S: Server>(
     world: &mut World<S>,
     alloc: Global,
     task: TaskId,
-    retry: Retry,
+    retry: NextLookup,
     held: &mut Vec<u64>,
 ) -> Result<Target, Stop>
     ensures { (opener : written.Opener) → Went S.meaning task.0 held.old.items (written.followed opener retry) world.old
         (opening opener) held.new.items result world.new }
 {
     match retry {
-        Retry::Normal { name, port } => Ok(normal(name, port, held)?),
-        Retry::Reauth { name, port } => reauthenticated(world, alloc, task, name, port, held),
-        Retry::Magical { name } => magical(alloc, name),
+        NextLookup::Normal { name, port } => Ok(normal(name, port, held)?),
+        NextLookup::Reauth { name, port } => reauthenticated(world, alloc, task, name, port, held),
+        NextLookup::Magical { name } => magical(alloc, name),
     }
 }
 
 /// Holds the port of a retry that isn't followed.
-fn hold_last(retry: Retry, held: &mut Vec<u64>) -> Result<(), AllocError>
+fn hold_last(retry: NextLookup, held: &mut Vec<u64>) -> Result<(), AllocError>
     ensures { OnOk result (releasing held.new.items (gives (Err Errno.ELOOP)) ≡ releasing held.old.items (written.too_many retry)) }
 {
     match retry {
-        Retry::Normal { name: _, port } => hold(held, port),
-        Retry::Reauth { name: _, port } => hold(held, port),
-        Retry::Magical { name: _ } => Ok(()),
+        NextLookup::Normal { name: _, port } => hold(held, port),
+        NextLookup::Reauth { name: _, port } => hold(held, port),
+        NextLookup::Magical { name: _ } => Ok(()),
     }
 }
 
@@ -248,19 +248,19 @@ fn take_turn<S: Server>(
     flags: OpenFlags,
     target: Target,
     held: &mut Vec<u64>,
-) -> Result<Outcome, Stop>
+) -> Result<TurnEnd, Stop>
     ensures { (left : ℕ) → Went S.meaning task.0 held.old.items (opening (written.look (suc left) flags) target) world.old
         (opening_on (written.look left flags)) held.new.items result world.new }
 {
     let Target { dir, name } = target;
     let path = Bytes::copied(alloc, name.as_slice())?;
     match calls::look_up(world, alloc, task, dir, path, flags)? {
-        Looked::Opened(port) => Ok(Outcome::Opened(port)),
-        Looked::Retried(retry) => {
+        LookupAnswer::Opened(port) => Ok(TurnEnd::Opened(port)),
+        LookupAnswer::Retried(retry) => {
             let target = follow(world, alloc, task, retry, held)?;
-            Ok(Outcome::Onward(target))
+            Ok(TurnEnd::Onward(target))
         }
-        Looked::Started(words) => Ok(Outcome::Starts {
+        LookupAnswer::Started(words) => Ok(TurnEnd::Starts {
             words,
             target: Target { dir, name },
         }),
@@ -281,12 +281,12 @@ fn take_last_turn<S: Server>(
 {
     let Target { dir, name } = target;
     match calls::look_up(world, alloc, task, dir, name, flags)? {
-        Looked::Opened(port) => Ok(port),
-        Looked::Retried(retry) => {
+        LookupAnswer::Opened(port) => Ok(port),
+        LookupAnswer::Retried(retry) => {
             hold_last(retry, held)?;
             Err(Stop::Refused(Errno::ELOOP))
         }
-        Looked::Started(_) => Err(Stop::Refused(Errno::ELOOP)),
+        LookupAnswer::Started(_) => Err(Stop::Refused(Errno::ELOOP)),
     }
 }
 
@@ -299,7 +299,7 @@ fn look<S: Server>(
     left: u32,
     target: Target,
     held: &mut Vec<u64>,
-) -> Result<Found, Stop>
+) -> Result<LookingEnd, Stop>
     ensures { Went S.meaning task.0 held.old.items (opening (written.look left flags) target) world.old
         (found_on flags) held.new.items result world.new }
 {
@@ -308,10 +308,10 @@ fn look<S: Server>(
     while left > 0 {
         left -= 1;
         match take_turn(world, alloc, task, flags, target, held)? {
-            Outcome::Opened(port) => return Ok(Found::Opened(port)),
-            Outcome::Onward(next) => target = next,
-            Outcome::Starts { words, target } => {
-                return Ok(Found::Starts {
+            TurnEnd::Opened(port) => return Ok(LookingEnd::Opened(port)),
+            TurnEnd::Onward(next) => target = next,
+            TurnEnd::Starts { words, target } => {
+                return Ok(LookingEnd::Starts {
                     words,
                     left,
                     target,
@@ -320,7 +320,7 @@ fn look<S: Server>(
         }
     }
     let port = take_last_turn(world, alloc, task, flags, target, held)?;
-    Ok(Found::Opened(port))
+    Ok(LookingEnd::Opened(port))
 }
 
 /// Goes on with an opening, up to the node or to a translator that is to be started. At the end, and at a refusal, the ports
@@ -340,12 +340,12 @@ pub(crate) fn go_on<S: Server>(
         mut held,
     } = opening;
     match look(world, alloc, task, flags, left, target, &mut held) {
-        Ok(Found::Opened(port)) => {
+        Ok(LookingEnd::Opened(port)) => {
             give_up(world, alloc, task, held)?;
             Ok(Reached::Opened(port))
         }
         Ok(
-            Found::Starts {
+            LookingEnd::Starts {
                 words,
                 left,
                 target,

@@ -15,7 +15,7 @@ use crate::flags::{setting_of, to_change, to_control, to_enter, to_list, to_set,
 use crate::looking::{Opening, Reached, go_on_with, open};
 use hurd_creds::{Bytes, Errno, OpenFlags, TaskId};
 use hurd_machine::Setting;
-use hurd_script::{Action, Command, Place};
+use hurd_script::{Action, Command, EntryPlace};
 use hurd_trans_iface::{Server, Words};
 use hurd_world::World;
 use std::alloc::{AllocError, Global};
@@ -27,7 +27,7 @@ pub(crate) enum Work {
     /// Something that it stops for nothing in.
     Node(NodeWork),
     /// Something at a name of a second directory.
-    Entry(EntryWork, Place),
+    Entry(EntryWork, EntryPlace),
     /// A translator is set, perhaps with a server of these words.
     Set {
         setting: Setting,
@@ -206,12 +206,12 @@ fn enter<S: Server>(
     alloc: Global,
     task: TaskId,
     port: u64,
-    place: Place,
+    place: EntryPlace,
     work: EntryWork,
 ) -> Result<Progress, Stop>
     ensures { Arrived S.meaning task.0 (closing port (work_of (Work.Entry work place) port)) world.old progress_on result world.new }
 {
-    let Place { directory, name } = place;
+    let EntryPlace { directory, name } = place;
     match open(world, alloc, task, directory, to_enter()) {
         Ok(reached) => entered(world, alloc, task, port, reached, name, work),
         Err(stop) => close_refused(world, alloc, task, port, stop),
@@ -386,15 +386,15 @@ pub(crate) fn begin<S: Server>(
             with_open(world, alloc, task, node, to_write(), work)
         }
         Action::Mkdir { place } => {
-            let Place { directory, name } = place;
+            let EntryPlace { directory, name } = place;
             in_place(world, alloc, task, directory, NodeWork::Mkdir(name))
         }
         Action::Rm { place } => {
-            let Place { directory, name } = place;
+            let EntryPlace { directory, name } = place;
             in_place(world, alloc, task, directory, NodeWork::Rm(name))
         }
         Action::Rmdir { place } => {
-            let Place { directory, name } = place;
+            let EntryPlace { directory, name } = place;
             in_place(world, alloc, task, directory, NodeWork::Rmdir(name))
         }
         Action::Ln { file, new } => {
@@ -402,7 +402,7 @@ pub(crate) fn begin<S: Server>(
             with_open(world, alloc, task, file, to_change(), work)
         }
         Action::Mv { old, new } => {
-            let Place { directory, name } = old;
+            let EntryPlace { directory, name } = old;
             let work = Work::Entry(EntryWork::Mv(name), new);
             with_open(world, alloc, task, directory, to_enter(), work)
         }

@@ -146,8 +146,8 @@ module _ (kind : ServerKind) (text : List ℕ) (held : List ℕ) where
 
   -- the node goes when it is forgotten, and not when another one is
 
-  abbrev Finds : Presence → Name → Option LoneNode → Type 0
-  Finds p n o = option_map (node_of kind text held) o ≡ at p n
+  abbrev StandsFor : Presence → Name → Option LoneNode → Type 0
+  StandsFor p n o = option_map (node_of kind text held) o ≡ at p n
 
   some_is_none : (o : Option LoneNode) → is_some o ≡ true → option_map (node_of kind text held) o ≡ None → ⊥
   some_is_none None some none = absurd (cc)
@@ -157,7 +157,7 @@ module _ (kind : ServerKind) (text : List ℕ) (held : List ℕ) where
   none_if_none None none = refl
   none_if_none (Some r) none = absurd (cc)
 
-  pub forget_there : (p : Presence) (n : Name) (o : Option LoneNode) → Finds p n o → is_some o ≡ true → lone_meaning kind text held (Forgotten n) ≡ forget_after (lone_meaning kind text held p) n
+  pub forget_there : (p : Presence) (n : Name) (o : Option LoneNode) → StandsFor p n o → is_some o ≡ true → lone_meaning kind text held (Forgotten n) ≡ forget_after (lone_meaning kind text held p) n
   forget_there Nameless n o finds some = absurd (some_is_none o some (finds ∙ fin.get-empty {X = Node} name_cmp n))
   forget_there (Forgotten name) n o finds some = absurd (some_is_none o some (finds ∙ fin.get-empty {X = Node} name_cmp n))
   forget_there (There r) n o finds some = elim (same_or_apart n r.name) [
@@ -165,7 +165,7 @@ module _ (kind : ServerKind) (text : List ℕ) (held : List ℕ) where
     | inr apart ↦ absurd (some_is_none o some (finds ∙ get-other r.name (node_of kind text held r) n apart))
   ]
 
-  pub forget_absent : (p : Presence) (n : Name) (o : Option LoneNode) → Finds p n o → is_some o ≡ false → lone_meaning kind text held p ≡ forget_after (lone_meaning kind text held p) n
+  pub forget_absent : (p : Presence) (n : Name) (o : Option LoneNode) → StandsFor p n o → is_some o ≡ false → lone_meaning kind text held p ≡ forget_after (lone_meaning kind text held p) n
   forget_absent p n o finds none =
       rw (remove-absent n (nodes_of kind text held p) (sym finds ∙ none_if_none o none)) refl
 

@@ -21,9 +21,9 @@ abbrev pub tasks_named : (List ℕ → Option ℕ) → List ℕ → Option (List
 tasks_named finds word = tasks_of finds (slice_split (λ b. b == 44) word)
 
 -- one name more is read: its task is taken, whatever names follow, or there is none
-abbrev pub Finds : (List ℕ → Option ℕ) → List ℕ → List ℕ → Bool → List ℕ → Type 0
-Finds finds name before true after = Takes (tasks_of finds) name before after
-Finds finds name before false after = Refuses (tasks_of finds) name
+abbrev pub AddsName : (List ℕ → Option ℕ) → List ℕ → List ℕ → Bool → List ℕ → Type 0
+AddsName finds name before true after = Takes (tasks_of finds) name before after
+AddsName finds name before false after = Refuses (tasks_of finds) name
 
 -- what stands behind the names of those who learn
 abbrev pub verb_of : List TaskId → List ℕ

@@ -4,7 +4,7 @@ ghost use Rattle.std.specs.Global.{Global};
 ghost use Rattle.std.specs.Option.{option_map};
 ghost use Rattle.hurd_creds.specs.declared.name.TaskId.{TaskId};
 ghost use Rattle.hurd_words.specs.Lines.{lines_of};
-ghost use Rattle.hurd_teaching.specs.Learners.{Finds, Named, numbers, tasks_named};
+ghost use Rattle.hurd_teaching.specs.Learners.{AddsName, Named, numbers, tasks_named};
 ghost use Rattle.hurd_teaching.specs.Looks.{asks_of, starts_of};
 
 use crate::learners::Learners;
@@ -34,7 +34,7 @@ impl<T: Telling> Naming for T {
 
 /// One task more, of a name; whether there is one. An error is want of memory.
 fn add_task<N: Naming>(tasks: &mut Vec<TaskId>, naming: &N, name: &str) -> Result<bool, AllocError>
-    ensures { IfOk result (λ found. Finds (N.tasks naming.now) name.now (numbers tasks.old.items) found (numbers tasks.new.items)) }
+    ensures { IfOk result (λ found. AddsName (N.tasks naming.now) name.now (numbers tasks.old.items) found (numbers tasks.new.items)) }
 {
     match naming.task_of(name) {
         Some(task) => {
