@@ -2,7 +2,6 @@
 ghost use Rattle.std.specs.Prelude.{◌≡◌, ◌⊎◌, IfErr, IfOk, OnOk};
 ghost use Rattle.std.specs.Option.{option_map};
 ghost use Rattle.hurd_kinds.specs.Boxes.{box_meaning};
-ghost use Rattle.hurd_machine.specs.Calls.{lacks_memory};
 ghost use Rattle.hurd_world.specs.Held.{state_of, world_of};
 ghost use Rattle.hurd_world.specs.Noting.{NotesWhatIsTouched};
 ghost use Rattle.hurd_lists.specs.Calls.{begun};
@@ -15,16 +14,6 @@ use hurd_lists::{ListedCall, told, with_server};
 use hurd_trans_iface::{Server, Words};
 use hurd_world::{Reply, World};
 use std::alloc::{AllocError, Global};
-
-/// Whether a reply is want of memory.
-pub fn lacks_memory<S>(reply: &Reply<S>) -> bool
-    ensures { result ≡ lacks_memory reply.now }
-{
-    matches!(
-        reply,
-        Reply::Refused(Errno::ENOMEM) | Reply::Back(Errno::ENOMEM, _)
-    )
-}
 
 /// The server that the words of a call make, where it brings any; none also where no kind takes them. An error is want of memory.
 pub fn brought(alloc: Global, words: &Option<Words>) -> Result<Option<ServerBox>, AllocError>
@@ -57,7 +46,7 @@ pub fn part<S: Server>(
         server: _,
     } = listed;
     let reply = world.call(alloc, task, with_server(call, server));
-    if lacks_memory(&reply) {
+    if reply.lacks_memory() {
         return Err(AllocError);
     }
     Ok(told(alloc, line.as_slice(), &reply)?)

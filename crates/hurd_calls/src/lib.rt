@@ -10,5 +10,5 @@ mod calling;
 mod list;
 
 pub use beginning::{begun, complaint_of, parsed};
-pub use calling::{brought, lacks_memory, part};
+pub use calling::{brought, part};
 pub use list::{RunningCalls, task_of};

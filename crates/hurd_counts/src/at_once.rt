@@ -8,7 +8,7 @@ ghost use Rattle.hurd_world.specs.Held.{AllBegun};
 use crate::boxes::Boxes;
 use crate::counted::Counted;
 use crate::run::followed;
-use hurd_calls::{brought, lacks_memory};
+use hurd_calls::brought;
 use hurd_creds::{Bytes, TaskId};
 use hurd_kinds::ServerBox;
 use hurd_lists::{ListedCall, told, with_server};
@@ -84,7 +84,7 @@ fn tell<S: Server, W: Write>(
     reply: &Reply<S>,
     output: &mut Output<W>,
 ) -> Result<(), Fault> {
-    if lacks_memory(reply) {
+    if reply.lacks_memory() {
         return Err(Fault::Memory);
     }
     let part = told(alloc, line.as_slice(), reply)?;

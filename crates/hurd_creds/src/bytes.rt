@@ -1,5 +1,5 @@
 //! Bytes that contracts see as a list.
-ghost use Rattle.std.specs.Prelude.{◌≡◌, ◌==◌, ◌↔◌, length, IsTrue, IfOk};
+ghost use Rattle.std.specs.Prelude.{◌≡◌, ◌==◌, ◌↔◌, [], Ok, drop, length, take, IsTrue, IfOk};
 ghost use Rattle.std.specs.Str.{bytes_eq};
 
 use crate::same::Same;
@@ -20,6 +20,16 @@ impl Model for Bytes {
     ghost view = { λ b. b.items.items };
 }
 
+/// At most so many bytes from a place on.
+fn part(bytes: &[u8], at: u64, amount: u64) -> &[u8]
+    ensures { result.now ≡ take amount (drop at bytes.now) }
+{
+    let from = at.min(bytes.len() as u64) as usize;
+    let rest = &bytes[from..];
+    let count = amount.min(rest.len() as u64) as usize;
+    &rest[..count]
+}
+
 impl Bytes {
     /// A copy of these bytes.
     pub fn copied(alloc: Global, bytes: &[u8]) -> Result<Bytes, AllocError>
@@ -28,6 +38,18 @@ impl Bytes {
         Ok(Bytes {
             items: Vec::from_slice(alloc, bytes)?,
         })
+    }
+
+    /// A copy of at most so many of these bytes from a place on; where there are none, no memory is taken.
+    pub fn part(alloc: Global, bytes: &[u8], at: u64, amount: u64) -> Result<Bytes, AllocError>
+        ensures is { IfOk result (λ b. b ≡ take amount (drop at bytes.now)) }
+        ensures nothing { take amount (drop at bytes.now) ≡ [] → result ≡ Ok [] }
+    {
+        let some = part(bytes, at, amount);
+        if some.is_empty() {
+            return Ok(Bytes::new(Vec::new(alloc)));
+        }
+        Bytes::copied(alloc, some)
     }
 
     /// These very bytes.

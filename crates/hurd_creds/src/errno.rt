@@ -1,6 +1,7 @@
 //! Errors.
 ghost use Rattle.std.specs.Prelude.{◌≡◌};
 ghost use Rattle.hurd_creds.specs.Errors.{number_of, name_of};
+ghost use Rattle.hurd_creds.specs.Memory.{is_no_memory};
 
 use std::alloc::AllocError;
 
@@ -35,6 +36,13 @@ pub enum Errno {
 }
 
 impl Errno {
+    /// Whether it is want of memory.
+    pub fn is_no_memory(self) -> bool
+        ensures { result ≡ is_no_memory self }
+    {
+        matches!(self, Errno::ENOMEM)
+    }
+
     /// The error's number, from 1 on.
     pub fn number(self) -> u32
         ensures { result ≡ number_of self }

@@ -3,7 +3,6 @@
 //! In the Hurd the server that has a node starts its passive translator, and that one calls `fsys_startup`. Here both are done by the
 //! task whose lookup came there.
 ghost use Rattle.std.specs.Prelude.{◌≡◌, IfErr, option_copied};
-ghost use Rattle.hurd_creds.specs.Memory.{is_no_memory};
 ghost use Rattle.hurd_trans_iface.specs.Meaning.{Begins};
 ghost use Rattle.hurd_machine.specs.Plan.{Follows, told};
 ghost use Rattle.hurd_machine.specs.declared.call.Reply.TheVariants.{Done};
@@ -60,7 +59,7 @@ pub fn fsys_startup<S: Server>(
     let node = start.node;
     let (attrs, targets) = match startup_asked(core, alloc, task, start, &server) {
         Ok(found) => found,
-        Err(errno) if is_no_memory(errno) => return Err((errno, server)),
+        Err(errno) if errno.is_no_memory() => return Err((errno, server)),
         Err(errno) => {
             let _ = core.unpend(task);
             return Err((errno, server));
@@ -75,16 +74,6 @@ pub fn fsys_startup<S: Server>(
         starts: true,
     };
     seat(core, alloc, task, place, targets, server)
-}
-
-/// Whether an error is want of memory.
-fn is_no_memory(errno: Errno) -> bool
-    ensures { result ≡ is_no_memory errno }
-{
-    match errno {
-        Errno::ENOMEM => true,
-        _ => false,
-    }
 }
 
 /// The attributes of the node whose translator a task is to start, and the targets of its server, where that can be done, and the task can name two things more.

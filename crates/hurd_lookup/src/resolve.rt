@@ -2,7 +2,6 @@
 ghost use Rattle.std.specs.Prelude.{◌≡◌, ◌<◌, [], ◌∷◌, List, Result, IfSome, IsOk, OnOk, length};
 ghost use Rattle.hurd_creds.specs.declared.name.Name.{Name};
 ghost use Rattle.hurd_creds.specs.declared.errno.Errno.{Errno as Refusal};
-ghost use Rattle.hurd_trans_iface.specs.Kinds.Symlink.{is_absolute};
 ghost use Rattle.hurd_ports.specs.Limits.{most_parents};
 ghost use Rattle.hurd_ports.specs.declared.parents.Parent.{Parent};
 ghost use Rattle.hurd_machine.specs.World.{World};
@@ -24,7 +23,7 @@ use hurd_core::Core;
 use hurd_creds::{Bytes, Errno, Ids, Mode, NodeName, OpenFlags};
 use hurd_nodes::BOOT_NAME;
 use hurd_ports::Parents;
-use hurd_trans_iface::{Server, is_dir};
+use hurd_trans_iface::{Server, is_absolute, is_dir};
 use std::alloc::{AllocError, Global};
 
 /// So many looks are made along a path at most: the first, and 32 retries.
@@ -52,16 +51,6 @@ pub(crate) enum Landing {
 pub(crate) enum Looked {
     Ends(Landing),
     Goes(Leg),
-}
-
-/// Whether a path leads on from the root of the tree.
-fn is_absolute(path: &[u8]) -> bool
-    ensures { result ≡ is_absolute path.now }
-{
-    match path {
-        [first, ..] => *first == b'/',
-        [] => false,
-    }
 }
 
 /// Along a path from the root of the tree.

@@ -1,9 +1,8 @@
 //! Calls that a command makes, and what it reads of their replies.
 ghost use Rattle.std.specs.Prelude.{◌≡◌, IfOk, IfErr, Ok, None, Some, IsSome};
-ghost use Rattle.hurd_creds.specs.Memory.{is_no_memory};
 ghost use Rattle.hurd_creds.specs.declared.open_flags.OpenFlags.{OpenFlags};
 ghost use Rattle.hurd_creds.specs.Limits.{most_read};
-ghost use Rattle.hurd_machine.specs.Calls.{BringsBegun, box_in, call_by, lacks_memory, refusal, reply_by};
+ghost use Rattle.hurd_machine.specs.Calls.{BringsBegun, box_in, call_by, refusal, reply_by};
 ghost use Rattle.hurd_laws.specs.Called.{Lacks};
 ghost use Rattle.hurd_world.specs.Held.{state_of, world_of};
 ghost use Rattle.hurd_shell.specs.Programs.{made, data_of, done_of, names_of, port_of, set_of, stat_of, unread, words_of};
@@ -28,16 +27,6 @@ const FILE_MODE: u32 = 0o644;
 /// The mode of a directory that a command makes.
 const DIRECTORY_MODE: u32 = 0o755;
 
-/// Whether a reply is want of memory.
-fn lacks_memory<S>(reply: &Reply<S>) -> bool
-    ensures { result ≡ lacks_memory reply.now }
-{
-    matches!(
-        reply,
-        Reply::Refused(Errno::ENOMEM) | Reply::Back(Errno::ENOMEM, _)
-    )
-}
-
 /// Makes a call of a task. Where memory was refused, a server that the call brought is dropped.
 fn made<S: Server>(
     world: &mut World<S>,
@@ -52,7 +41,7 @@ fn made<S: Server>(
         Lacks (world_of S.meaning world.old) task.0 c (refusal (box_in c) Errno.ENOMEM) (world_of S.meaning world.new)) }
 {
     let reply = world.call(alloc, task, call);
-    if lacks_memory(&reply) {
+    if reply.lacks_memory() {
         return Err(NoMemory);
     }
     Ok(reply)
@@ -568,13 +557,6 @@ pub(crate) fn start_failed<S: Server>(
     Ok(())
 }
 
-/// Whether an error is want of memory.
-fn is_no_memory(errno: Errno) -> bool
-    ensures { result ≡ is_no_memory errno }
-{
-    matches!(errno, Errno::ENOMEM)
-}
-
 /// Makes a call that brings a server, and drops a server that comes back; but for want of memory, where it is given back.
 pub(crate) fn offered<S: Server>(
     world: &mut World<S>,
@@ -591,7 +573,7 @@ pub(crate) fn offered<S: Server>(
         Reply::Done => Ok(Ok(())),
         Reply::Refused(errno) => Ok(Err(errno)),
         Reply::Back(errno, server) => {
-            if is_no_memory(errno) {
+            if errno.is_no_memory() {
                 Err(server)
             } else {
                 Ok(Err(errno))

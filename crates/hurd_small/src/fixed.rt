@@ -2,7 +2,6 @@
 ghost use Rattle.std.specs.Prelude.{◌≡◌, ◌≤◌, ℕ, [], length, replicate, Ok};
 ghost use Rattle.hurd_creds.specs.Memory.{Meets};
 ghost use Rattle.hurd_trans_iface.specs.Kinds.Hello.{most_text};
-ghost use Rattle.hurd_trans_iface.specs.Kinds.Symlink.{is_absolute};
 ghost use Rattle.hurd_small.specs.FixedKinds.{begins_empty, counts_nothing, keeps_nothing, kind_of};
 
 use crate::contents::new_text;
@@ -11,7 +10,7 @@ use crate::single::Single;
 use crate::text;
 use crate::words::no_options;
 use hurd_creds::{Bytes, Errno, Kind, MOST_READ};
-use hurd_trans_iface::{Crossing, Names, Root, Words};
+use hurd_trans_iface::{Crossing, Names, Root, Words, is_absolute};
 use std::alloc::Global;
 
 /// A kind and a text, which words can say.
@@ -145,16 +144,6 @@ impl Single for Fixed {
             FixedKind::Null | FixedKind::Firmlink => 0,
             FixedKind::Zero => MOST_READ,
         }
-    }
-}
-
-/// Whether a path leads on from the root of the tree.
-fn is_absolute(path: &[u8]) -> bool
-    ensures { result ≡ is_absolute path.now }
-{
-    match path {
-        [first, ..] => *first == b'/',
-        [] => false,
     }
 }
 

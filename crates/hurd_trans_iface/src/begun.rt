@@ -7,7 +7,7 @@ ghost use Rattle.hurd_trans_iface.specs.Arguments.{behind, is_bare, no_text};
 ghost use Rattle.hurd_trans_iface.specs.Kinds.Hello.{hello_text};
 ghost use Rattle.hurd_trans_iface.specs.Meaning.{Meaning, ServerKind, behaviour_of, begin, begin_as, new_server, options_of};
 ghost use Rattle.hurd_trans_iface.specs.declared.begun.ServerKind.TheVariants.{Union};
-ghost use Rattle.hurd_trans_iface.specs.Kinds.Symlink.{target_text};
+ghost use Rattle.hurd_trans_iface.specs.Kinds.Symlink.{is_absolute, target_text};
 ghost use Rattle.hurd_trans_iface.specs.Kinds.Firmlink.{firm_text, is_firm};
 ghost use Rattle.hurd_trans_iface.specs.Kinds.Union.{union_text};
 ghost use Rattle.hurd_trans_iface.specs.Kinds.Magic.{magic_text};
@@ -137,11 +137,18 @@ fn symlink(arguments: &[Bytes]) -> Option<&[u8]>
     }
 }
 
+/// Whether a path leads on from the root of the tree.
+pub fn is_absolute(path: &[u8]) -> bool
+    ensures { result ≡ is_absolute path.now }
+{
+    path.first() == Some(&b'/')
+}
+
 /// Whether this is a path from the root of the tree, of at most 1,024 bytes.
 pub fn is_firm(path: &Bytes) -> bool
     ensures { result ≡ is_firm path.now }
 {
-    path.as_slice().first() == Some(&b'/') && path.len() <= MOST_PATH
+    is_absolute(path.as_slice()) && path.len() <= MOST_PATH
 }
 
 /// What the words behind `/hurd/firmlink` say: one path from the root of the tree.

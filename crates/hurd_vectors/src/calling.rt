@@ -12,7 +12,6 @@ ghost use Rattle.hurd_vectors.specs.Vectors.{vector_in};
 
 use crate::reply::push_reply;
 use crate::telling::{line_words, push_call};
-use hurd_calls::lacks_memory;
 use hurd_lists::{ListedCall, with_server};
 use hurd_trans_iface::Server;
 use hurd_world::{Reply, World};
@@ -49,7 +48,7 @@ pub(crate) fn vector<S: Server>(
         server: _,
     } = listed;
     let reply = world.call(alloc, task, with_server(call, server));
-    if lacks_memory(&reply) {
+    if reply.lacks_memory() {
         return Err(AllocError);
     }
     vector_of(alloc, line.as_slice(), &reply)
