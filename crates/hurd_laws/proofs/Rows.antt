@@ -1,4 +1,4 @@
--- What is proved of each call: each has a line.
+-- What is proved of each call: each has its line here.
 use Rattle.std.proofs.Common.{◌≡◌, ℕ, Option, Some, None, Result, inl}
 use Rattle.hurd_machine.proofs.Common.{Call, Errno, Meaning, Nothing, Part, Plan, Reply, World, box_in, looks}
 use Rattle.hurd_machine.specs.declared.call.Call.TheVariants.{Plain, FileSetTranslator, FsysStartup}
