@@ -1,5 +1,5 @@
 -- What each call touches, its caller may change.
-use Rattle.std.proofs.Common.{◌≡◌, ◌≢◌, ◌⊎◌, ◌∙◌, ◌||◌, ◌&&◌, ◌==◌, ◌<◌, ℕ, ℤ, Bool, true, false, true≢false, if◌then◌else◌, nat_lt, List, Option, Some, None, refl, sym, ap, subst, inl, inr, arith}
+use Rattle.std.proofs.Common.{◌≡◌, ◌≢◌, ◌⊎◌, ◌∙◌, ◌||◌, ◌&&◌, ◌==◌, ◌<◌, ℕ, ℤ, Bool, true, false, true≢false, if◌then◌else◌, nat_lt, List, [], ◌∷◌, Option, Some, None, refl, sym, ap, subst, inl, inr, arith}
 use Rattle.std.proofs.lemmas.Bool.Decides.{nat_tests}
 use Rattle.std.specs.Prelude.{Result, Ok, Err}
 use Rattle.hurd_creds.specs.declared.attrs.Attrs.{Attrs}
@@ -14,7 +14,9 @@ use Rattle.hurd_trans_iface.specs.Meaning.{keeps_tree, root_of}
 use Rattle.hurd_trans_iface.proofs.Goods.{good}
 use Rattle.hurd_nodes.specs.Needs.{streams_by}
 use Rattle.hurd_nodes.specs.Shown.{ServerInfo, asked_of, tree_by}
-use Rattle.hurd_machine.proofs.Common.{AttrOf, BodyOf, Control, Did, EndsOf, Errno, Holds, IdSets, Io, Mode, Name, Named, OnDid, OnDrop, OnRight, OpenFlags, OpenOf, Part, Question, READ, Right, Seen, Sound, Start, TaskOf, TotalOf, UsersOf, WRITE, World, asked_at, asked_parts, bare, handle_asks, info_at, owns, port_asks, ports_of, space_at, stream_at}
+use Rattle.hurd_machine.proofs.Common.{AttrOf, BodyOf, Control, Did, EndsOf, Errno, Holds, IdSets, Io, Mode, Name, Named, OnDid, OnDrop, OnRight, OpenFlags, OpenOf, Part, Plan, Question, READ, Right, Seen, Send, Sound, Start, TaskOf, TotalOf, UsersOf, WRITE, World, after_plan, answered, apply, asked_at, asked_parts, bare, handle_asks, info_at, owns, port_asks, ports_of, space_at, stream_at, with_sent}
+use Rattle.hurd_machine.specs.declared.call.Reply.TheVariants.{Done}
+use Rattle.hurd_ports.proofs.TaskLaws.{edit-here, one_or_other}
 use Rattle.hurd_machine.specs.World.{node_at}
 use Rattle.hurd_machine.specs.declared.handle.Handle.{Handle}
 use Rattle.hurd_machine.specs.declared.call.Whence.{Whence}
@@ -24,7 +26,7 @@ use Rattle.hurd_machine.specs.Sight.{Held}
 use Rattle.hurd_ports.specs.Tables.{right_of}
 use Rattle.hurd_machine.proofs.Spaces.{effect_fits}
 use Rattle.hurd_machine.proofs.Asks.{first_ok, given_ok, holds_right, handled, is_named, IsNamed}
-use Rattle.hurd_rights.specs.Rights.{touches_deallocate, touches_send}
+use Rattle.hurd_rights.specs.Rights.{plan_send, touches_deallocate, touches_send}
 use Rattle.hurd_core.specs.Core.{send_asks}
 use Rattle.hurd_io.specs.Io.{reads, writes, touches_read, touches_write}
 use Rattle.hurd_io.specs.Opens.{seek_asks, touches_seek, touches_set_openmodes}
@@ -33,11 +35,15 @@ use Rattle.hurd_io.proofs.Touching.{Touches, read_touches, write_touches}
 use Rattle.hurd_files.specs.Files.{set_size_asks, touches_set_size}
 use Rattle.hurd_files.specs.Access.{gives, setting_asks, touches_chmod, touches_chown}
 use Rattle.hurd_files.proofs.AccessLaws.{may_set}
-use Rattle.hurd_laws.specs.Integrity.{HasOpen, Owns, Owned, MayChange, ByOpens, BySize, Sized, Written, Drained, ToWrite, ToDrain}
+use Rattle.hurd_laws.specs.Integrity.{HasOpen, IsDelivered, Owns, Owned, MayChange, ByOpens, BySize, Sized, Written, Drained, ToWrite, ToDrain}
 
 -- of a call of task t: what it touches, whoever has the task may change
 abbrev pub Allowed : ℕ → (World → Part → Type 0) → Type 0
 Allowed t touches = (S : ℕ → Bool) (w : World) → Sound w → S t ≡ true → (p : Part) → touches w p → MayChange S w p
+
+-- of such a call: what they may not change it doesn't touch, or it sends a right there
+abbrev pub Spares : ℕ → (World → Plan) → (World → Part → Type 0) → Type 0
+Spares t plan touches = (S : ℕ → Bool) (w : World) → Sound w → S t ≡ true → (p : Part) → (MayChange S w p → ⊥) → (touches w p → ⊥) ⊎ IsDelivered S w (after_plan w (plan w)) p
 
 -- two good answers that are the same answer the same
 pub ok_is : {A : Type 0} {a b : A} → ◌≡◌ {A = Result A Errno} (Ok a) (Ok b) → a ≡ b
@@ -82,8 +88,21 @@ sent_right w t p q r is =
 pub sent_held : {S : ℕ → Bool} {w : World} (t : ℕ) → S t ≡ true → (p q : ℕ) (r : Right) → send_asks w t p q ≡ Ok r → Holds S w r
 sent_held {S} {w} t ours p q r is = holds_right t ours p r (sent_right w t p q r is)
 
-pub send_may : (t p q : ℕ) (S : ℕ → Bool) (w : World) → S t ≡ true → (k : Part) → touches_send w t p q k → MayChange S w k ⊎ (k ≡ TaskOf q)
-send_may t p q S w ours k = parts_may _ _ k (λ r is on. elim on [ inl a ↦ inl (right_may r (sent_held t ours p q r is) k a) | inr e ↦ inr e ])
+is_task : (k : Part) (q : ℕ) → (k ≡ TaskOf q) ⊎ (k ≢ TaskOf q)
+is_task (TaskOf m) q = elim (one_or_other m q) [ inl e ↦ inl (ap TaskOf e) | inr a ↦ inr (λ e. a (cc (e))) ]
+is_task k q = inr (λ e. absurd (cc (e)))
+
+pub send_may : (t p q : ℕ) → Spares t (λ w. plan_send w t p q) (λ w. touches_send w t p q)
+unfolding answered asked_parts
+send_may t p q S w s ours k out = by (send_asks w t p q) refl
+  where
+    by : (x : Result Right Errno) → send_asks w t p q ≡ x
+        → (asked_parts x (λ r k. OnRight w r k ⊎ (k ≡ TaskOf q)) k → ⊥) ⊎ IsDelivered S w (after_plan w (answered x (λ r. record { reply = Done; changes = Send r q ∷ [] }))) k
+    by (Err e) is = inl (λ on. on)
+    by (Ok r) is = elim (is_task k q) [
+      | inl e ↦ inr (subst (IsDelivered S w (apply (Send r q) w)) (sym e) (record { right = r; held = sent_held t ours p q r is; is_last = edit-here q (with_sent r) w.tasks }))
+      | inr apart ↦ inl (λ on. elim on [ inl a ↦ out (right_may r (sent_held t ours p q r is) k a) | inr e ↦ apart e ])
+    ]
 
 -- what is open
 

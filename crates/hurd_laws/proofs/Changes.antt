@@ -3,9 +3,9 @@ use Rattle.std.proofs.Common.{◌≡◌, ◌++◌, not, ℕ, Bool, true, false, 
 use Rattle.std.specs.FinMap as fin
 use Rattle.std.specs.Option.{option_map}
 use Rattle.hurd_creds.specs.NameMaps.{map_values}
-use Rattle.hurd_machine.proofs.Common.{Attach, Body, Change, DropServer, EditBody, EditHeader, EditOpen, EditTask, Header, LetGo, MakeNode, MakeOpen, Name, NameMap, Node, NodeMap, NodeState, Opened, Right, Send, ServerInfo, SetText, Settle, Site, Task, Unseat, World, apply, apply_all, attached, edit, home_in, is_held, is_home, is_other, new_site, out_server, vacated, with_active, with_text}
+use Rattle.hurd_machine.proofs.Common.{Attach, Body, Change, DropServer, EditBody, EditHeader, EditOpen, EditTask, Header, LetGo, MakeNode, MakeOpen, Name, NameMap, Node, NodeMap, NodeState, Opened, Right, Send, ServerInfo, SetText, Settle, Site, Task, Unseat, World, apply, apply_all, attached, edit, is_held, is_home, is_other, new_site, out_server, vacated, with_active, with_text}
 use Rattle.hurd_trans_iface.specs.Nodes.{with_body, with_header}
-use Rattle.hurd_ports.specs.Steps.{edit_task, named, settled_at, with_sent}
+use Rattle.hurd_ports.specs.Steps.{named, with_sent}
 use Rattle.hurd_ports.specs.Tables.{OpenMap}
 use Rattle.hurd_nodes.specs.Shown.{without_sites}
 use Rattle.hurd_machine.specs.World.{nodes_of}

@@ -1,5 +1,5 @@
 -- What goes by a call whose changes settle at their end alone: afterwards nobody sees it.
-use Rattle.std.proofs.Common.{◌≡◌, ◌⊎◌, ◌∙◌, List, [], ◌∷◌, ◌++◌, Option, Some, None, refl, sym, subst, inl, inr}
+use Rattle.std.proofs.Common.{◌≡◌, ◌⊎◌, ◌∙◌, ℕ, Bool, true, List, [], ◌∷◌, Option, Some, None, refl, sym, subst, inl, inr}
 use Rattle.std.specs.Option.{option_map}
 use Rattle.hurd_machine.proofs.Common.{AttrOf, BodyOf, Change, Coherent, EmptyOf, EndsOf, IsGone, Linked, OpenOf, OptionsOf, Part, ServerInfo, Settle, TaskOf, TextOf, TotalOf, UsersOf, World, apply, apply_all, body_at, ends_at, faced, header_at, is_empty_dir, part, server_at, site_at, total_at}
 use Rattle.hurd_machine.specs.World.{nodes_of}
@@ -7,15 +7,10 @@ use Rattle.hurd_machine.specs.Change.{settle}
 use Rattle.hurd_machine.proofs.Coherence.{AllProper}
 use Rattle.hurd_machine.proofs.Keeping.{coherent_one}
 use Rattle.hurd_machine.proofs.Frame.{AllWithin, frame, gone_kept}
-use Rattle.hurd_machine.proofs.Permits.{AllExact}
 use Rattle.hurd_machine.proofs.Settle.{settle_part, settle_agrees}
 use Rattle.hurd_machine.proofs.Views.{Sees-back}
 use Rattle.hurd_laws.specs.Integrity.{IsLost}
-
--- changes that settle nowhere, or at their end alone
-pub data Ends (cs : List Change) : Type 0 where
-  Never : AllExact cs → Ends cs
-  Last : (ds : List Change) → AllExact ds → cs ≡ ds ++ Settle ∷ [] → Ends cs
+use Rattle.hurd_laws.proofs.Reasons.{AllReasoned}
 
 abbrev pub Stays : World → World → Part → Type 0
 Stays w x p = (part x p ≡ part w p) ⊎ IsLost x p
@@ -68,18 +63,13 @@ module _ (w : World) (p : Part) (T : Part → Type 0) (out : T p → ⊥) where
     ]
   ]
 
-  last : (ds : List Change) → AllExact ds → (x : World) → Coherent x → AllProper x (ds ++ Settle ∷ []) → AllWithin T x (ds ++ Settle ∷ []) → part x p ≡ part w p → Stays w (apply_all (ds ++ Settle ∷ []) x) p
-  last [] ex x c pr i e = settled x c pr.0 e
-  last (k ∷ ds) ex x c pr i e =
+  -- a part that none of the changes writes, along them
+  along : (S : ℕ → Bool) (cs : List Change) → AllReasoned true S w cs → (x : World) → Coherent x → AllProper x cs → AllWithin T x cs → part x p ≡ part w p → Stays w (apply_all cs x) p
+  along S [] r x c pr i e = inl e
+  along S (Settle ∷ ds) r x c pr i e = subst (λ es. Stays w (apply_all es (settle x)) p) (sym r.1) (settled x c pr.0 e)
+  along S (k ∷ ds) r x c pr i e =
       let next : Coherent (apply k x) = coherent_one k x c pr.0 in
-      last ds ex.1 (apply k x) next (pr.1 next) i.1 (frame T x c k ex.0 pr.0 p i.0 out ∙ e)
+      along S ds r.1 (apply k x) next (pr.1 next) i.1 (frame T x c k tt pr.0 p i.0 out ∙ e)
 
-  never : (cs : List Change) → AllExact cs → (x : World) → Coherent x → AllProper x cs → AllWithin T x cs → part x p ≡ part w p → part (apply_all cs x) p ≡ part w p
-  never [] ex x c pr i e = e
-  never (k ∷ cs) ex x c pr i e =
-      let next : Coherent (apply k x) = coherent_one k x c pr.0 in
-      never cs ex.1 (apply k x) next (pr.1 next) i.1 (frame T x c k ex.0 pr.0 p i.0 out ∙ e)
-
-  pub ends_stays : (cs : List Change) → Ends cs → Coherent w → AllProper w cs → AllWithin T w cs → Stays w (apply_all cs w) p
-  ends_stays cs (Never ex) c pr i = inl (never cs ex w c pr i refl)
-  ends_stays cs (Last ds ex is) c pr i = subst (λ es. Stays w (apply_all es w) p) (sym is) (last ds ex w c (subst (AllProper w) is pr) (subst (AllWithin T w) is i) refl)
+  pub ends_stays : (S : ℕ → Bool) (cs : List Change) → AllReasoned true S w cs → Coherent w → AllProper w cs → AllWithin T w cs → Stays w (apply_all cs w) p
+  ends_stays S cs r c pr i = along S cs r w c pr i refl

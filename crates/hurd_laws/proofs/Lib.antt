@@ -1,4 +1,6 @@
+pub mod Rows
 pub mod Assembled
+pub mod Integrity
 pub mod Together
 pub mod Headline
 pub mod StaysConfined
@@ -7,11 +9,9 @@ pub mod Authority
 pub mod MayDirs
 pub mod MayServers
 pub mod MayLookup
-pub mod MayStep
 pub mod Ends
-pub mod EndsStep
 pub mod Reasons
-pub mod ReasonsStep
+pub mod CallReasons
 pub mod SparedRun
 pub mod KeptTypes
 pub mod LookupRenamed
@@ -44,7 +44,6 @@ pub mod GivenRenamed
 pub mod SoundRenamed
 pub mod LeftAlone
 pub mod Raised
-pub mod Untold
 pub mod SideBySide
 pub mod TaskChanges
 pub mod MapChanges
@@ -58,6 +57,5 @@ pub mod DirsLeft
 pub mod LookupLeft
 pub mod SeatsLeft
 pub mod SettingLeft
-pub mod After
 pub mod OwnLooks
 pub mod ServedByLooks

@@ -9,7 +9,7 @@ use Rattle.hurd_creds.proofs.NameLaws.{same_or_apart}
 use Rattle.hurd_creds.proofs.Sums.{total}
 use Rattle.hurd_creds.specs.NameMaps.{map_values}
 use Rattle.hurd_nodes.specs.declared.seat.Site.{Site}
-use Rattle.hurd_machine.proofs.Common.{IsAmong, Name, NameMap, Node, NodeMap, edit_all, home_in, own_nodes, sizing}
+use Rattle.hurd_machine.proofs.Common.{Name, NameMap, Node, NodeMap, edit_all, home_in, own_nodes, sizing}
 use Rattle.hurd_machine.specs.Renamed.{OtherNames, map_renamed, node_renamed, site_renamed}
 use Rattle.hurd_machine.proofs.RenamedMaps.{get-renamed, is_renamed, origin, total-renamed}
 use Rattle.hurd_machine.proofs.RenamedNodes.{home_in-renamed}

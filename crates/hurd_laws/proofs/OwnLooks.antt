@@ -5,13 +5,11 @@ use Rattle.hurd_machine.specs.Renamed.{OtherNames, renamed}
 use Rattle.hurd_machine.specs.Sight.{SameView}
 use Rattle.hurd_machine.specs.Sound.{AreGiven}
 use Rattle.hurd_machine.proofs.Common.{Sound, World}
-use Rattle.hurd_laws.specs.Step.{after, reply_of}
-use Rattle.hurd_laws.proofs.Assembled.{own_from_view, stays_sound}
+use Rattle.hurd_laws.specs.Step.{after}
+use Rattle.hurd_laws.proofs.Assembled.{after_renamed, names_untold, own_from_view, stays_sound}
 use Rattle.hurd_laws.specs.Untold.{KeepsGiven}
 use Rattle.hurd_laws.proofs.SoundRenamed.{renamed_sound}
-use Rattle.hurd_laws.proofs.Untold.{names_untold}
 use Rattle.hurd_laws.specs.After.{KeepsOwn, OwnFromLooks}
-use Rattle.hurd_laws.proofs.After.{after_renamed}
 
 -- all that stands was made, with other names too
 still_given : (f : OtherNames) (v : World) (t : ℕ) (c : Call) → KeepsOwn f t → KeepsGiven f v → Sound v → KeepsGiven f (after v t c)

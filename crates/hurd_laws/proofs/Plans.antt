@@ -1,7 +1,7 @@
 -- What plans change where things have other names.
-use Rattle.std.proofs.Common.{◌≡◌, Option, Some, None, Result, Ok, Err, sym, subst}
-use Rattle.hurd_machine.proofs.Common.{Errno, Meaning, Reply}
-use Rattle.hurd_machine.specs.Plan.{Plan, looks, returning}
+use Rattle.std.proofs.Common.{◌≡◌, Result, Ok, Err, sym, subst}
+use Rattle.hurd_machine.proofs.Common.{Errno, Reply}
+use Rattle.hurd_machine.specs.Plan.{Plan, looks}
 unfoldable use Rattle.hurd_machine.specs.Plan.{answered}
 use Rattle.hurd_machine.specs.Renamed.{OtherNames}
 use Rattle.hurd_machine.proofs.RenamedPlans.{answer_renamed}
@@ -38,8 +38,3 @@ module _ (f : OtherNames) where
   looks-left (Ok x) reply (Err e) told = none f
   looks-left (Err e) reply (Ok y) told = none f
   looks-left (Err e) reply (Err g) told = none f
-
-  -- with the box that was brought
-  pub returning-left : (o : Option Meaning) (P Q : Plan) → Changing P Q → Changing (returning o P) (returning o Q)
-  returning-left None P Q is = is
-  returning-left (Some m) P Q is = is

@@ -154,9 +154,15 @@ Reasoned S w (Unseat m) = MaySeat S w m
 Reasoned S w (DropServer s) = (m : Name) → active_at w m ≡ Some s → MaySeat S w m
 Reasoned S w c = Unit {0}
 
-abbrev pub AllReasoned : (ℕ → Bool) → World → List Change → Type 0
-AllReasoned S w [] = Unit {0}
-AllReasoned S w (c ∷ cs) = Reasoned S w c × AllReasoned S w cs
+-- each of these changes has its reason, and they settle at their end alone; or nowhere, where they may not
+abbrev pub AllReasoned : Bool → (ℕ → Bool) → World → List Change → Type 0
+AllReasoned may S w [] = Unit {0}
+AllReasoned may S w (Settle ∷ cs) = (may ≡ true) × (cs ≡ [])
+AllReasoned may S w (c ∷ cs) = Reasoned S w c × AllReasoned may S w cs
+
+first_reasoned : (may : Bool) (S : ℕ → Bool) (w : World) (d : Change) (ds : List Change) → AllReasoned may S w (d ∷ ds) → Reasoned S w d × AllReasoned may S w ds
+first_reasoned may S w Settle ds r = (tt, subst (AllReasoned may S w) (sym r.1) tt)
+first_reasoned may S w d ds r = r
 
 -- a name that was given is no new one, and stays given
 
@@ -259,15 +265,15 @@ module _ (S : ℕ → Bool) (w : World) where
     pub entry : (name : List ℕ) → EntryKept S w n name node.body z.body
     pub seat : (MaySeat S w n → ⊥) → active_at x n ≡ active_at w n
 
-  all_since : (cs : List Change) (x : World) → Coherent x → AllProper x cs → (n : Name) → Below x n → AllReasoned S w cs → ((y : Node) → get x.nodes n ≡ Some y → Since x n y)
+  all_since : (may : Bool) (cs : List Change) (x : World) → Coherent x → AllProper x cs → (n : Name) → Below x n → AllReasoned may S w cs → ((y : Node) → get x.nodes n ≡ Some y → Since x n y)
       → (z : Node) → get (apply_all cs x).nodes n ≡ Some z → Since (apply_all cs x) n z
-  all_since [] x c p n b reasons since z e = since z e
-  all_since (d ∷ ds) x c p n b reasons since z e =
-      all_since ds (apply d x) (coherent_one d x c p.0) (p.1 (coherent_one d x c p.0)) n (below_one x d p.0 n b) reasons.1 next z e
+  all_since may [] x c p n b reasons since z e = since z e
+  all_since may (d ∷ ds) x c p n b reasons since z e =
+      all_since may ds (apply d x) (coherent_one d x c p.0) (p.1 (coherent_one d x c p.0)) n (below_one x d p.0 n b) (first_reasoned may S w d ds reasons).1 next z e
     where
       next : (y : Node) → get (apply d x).nodes n ≡ Some y → Since (apply d x) n y
       next y f =
-          let k = before x d c p.0 n b reasons.0 y f in
+          let k = before x d c p.0 n b (first_reasoned may S w d ds reasons).0 y f in
           let s = since k.node k.is_node in
           record {
             node = s.node;
@@ -277,5 +283,5 @@ module _ (S : ℕ → Bool) (w : World) where
             seat = λ out. k.seat out (s.seat out) ∙ s.seat out;
           }
 
-  pub since_all : (cs : List Change) → Coherent w → AllProper w cs → AllReasoned S w cs → (n : Name) → Below w n → (z : Node) → get (apply_all cs w).nodes n ≡ Some z → Since (apply_all cs w) n z
-  since_all cs c p reasons n b = all_since cs w c p n b reasons (λ y e. record { node = y; is_node = e; header = same_header y.header; entry = λ name. same_entry name y.body; seat = λ out. refl })
+  pub since_all : (may : Bool) (cs : List Change) → Coherent w → AllProper w cs → AllReasoned may S w cs → (n : Name) → Below w n → (z : Node) → get (apply_all cs w).nodes n ≡ Some z → Since (apply_all cs w) n z
+  since_all may cs c p reasons n b = all_since may cs w c p n b reasons (λ y e. record { node = y; is_node = e; header = same_header y.header; entry = λ name. same_entry name y.body; seat = λ out. refl })

@@ -11,7 +11,7 @@ use Rattle.hurd_laws.specs.Integrity.{ByReason, KeepsIntegrity}
 use Rattle.hurd_laws.specs.Spared.{SparesAll}
 use Rattle.hurd_laws.proofs.Headline.{isolated, side_by_side}
 use Rattle.hurd_laws.proofs.Reasons.{same_header}
-use Rattle.hurd_laws.proofs.ReasonsStep.{integrity}
+use Rattle.hurd_laws.proofs.Integrity.{integrity}
 use Rattle.hurd_laws.proofs.SparedRun.{integrity_run}
 
 -- one call

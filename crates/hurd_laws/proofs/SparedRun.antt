@@ -11,15 +11,15 @@ use Rattle.hurd_laws.specs.Laws.{IsOld}
 use Rattle.hurd_laws.specs.Runs.{TaskCall, run}
 use Rattle.hurd_laws.specs.Integrity.{Entered, Gone, IsDelivered, IsLost, MayBody, MayChange, SameOwned, ToDrain, ToEnter, ToWrite}
 use Rattle.hurd_laws.specs.Spared.{Apart, IntegrityRun, IsApart, IsThing, SparedFile, SparedPart}
-use Rattle.hurd_laws.proofs.Assembled.{laws_of, stays_sound}
-use Rattle.hurd_laws.proofs.MayStep.{parts_kept, untouched}
+use Rattle.hurd_laws.proofs.Assembled.{stays_sound}
+use Rattle.hurd_laws.proofs.Integrity.{parts_kept, stepped, untouched}
 use Rattle.hurd_laws.proofs.Reasons.{below_all, both_owned, same_owned}
-use Rattle.hurd_laws.proofs.ReasonsStep.{stepped}
+use Rattle.hurd_laws.proofs.Rows.{call_laws}
 
 -- what was there before stays so
 
 below_after : (w : World) (t : ℕ) (c : Call) → Sound w → (n : Name) → Below w n → Below (after w t c) n
-below_after w t c s = let q = ((laws_of t c).piece w s).piece in below_all (plan w t c).changes w s.coherent q.proper
+below_after w t c s = let q = ((call_laws t c).laws.piece w s).piece in below_all (plan w t c).changes w s.coherent q.proper
 
 old_after : (w : World) (t : ℕ) (c : Call) → Sound w → (p : Part) → IsOld w p → IsOld (after w t c) p
 old_after w t c s (TaskOf q) old = tt

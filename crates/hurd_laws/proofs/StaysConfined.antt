@@ -7,7 +7,8 @@ use Rattle.hurd_machine.proofs.CallLaws as call
 use Rattle.hurd_laws.specs.Step.{after}
 use Rattle.hurd_laws.specs.Runs.{TouchesUnseen}
 use Rattle.hurd_laws.specs.Laws.{GivenSince, Confined, ConfinedRun}
-use Rattle.hurd_laws.proofs.Assembled.{laws_of, others_unseen, stays_sound}
+use Rattle.hurd_laws.proofs.Assembled.{others_unseen, stays_sound}
+use Rattle.hurd_laws.proofs.Rows.{call_laws}
 
 -- a name that a task of S hadn't given
 given_new : (S : ℕ → Bool) (w : World) (n : Name) → NewTo S w n → GivenSince S w n
@@ -16,7 +17,7 @@ given_new S w n new = let x = to_give w n new.1 in record { ours = new.0; task =
 -- one given since a step was given since before it
 given_before : (S : ℕ → Bool) (w : World) (t : ℕ) (c : Call) (n : Name) → Sound w → GivenSince S (after w t c) n → GivenSince S w n
 given_before S w t c n s g =
-    let x = call.names_grow t _ _ (laws_of t c) w s n.task.0 g.task g.is_task in
+    let x = call.names_grow t _ _ (call_laws t c).laws w s n.task.0 g.task g.is_task in
     let low : x.0.made ≤ g.task.made = x.2 in
     let high : g.task.made ≤ n.count = g.since in
     record { ours = g.ours; task = x.0; is_task = x.1; since = omega arith }
@@ -25,7 +26,7 @@ pub confined : Confined
 confined S w t c n s side seen = go (S t) refl
   where
     go : (b : Bool) → S t ≡ b → Seen S w n ⊎ GivenSince S w n
-    go true ours = elim (call.confined t _ _ (laws_of t c) S w s ours n seen) [ inl old ↦ inl old | inr new ↦ inr (given_new S w n new) ]
+    go true ours = elim (call.confined t _ _ (call_laws t c).laws S w s ours n seen) [ inl old ↦ inl old | inr new ↦ inr (given_new S w n new) ]
     go false out = elim side [
       | inl ours ↦ absurd (true≢false (sym ours ∙ out))
       | inr quiet ↦ inl (((others_unseen S w t c s out quiet).seen (AttrOf n)).1 seen)

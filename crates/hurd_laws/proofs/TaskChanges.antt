@@ -3,11 +3,10 @@ use Rattle.std.proofs.Common.{◌≡◌, ◌+◌, ◌++◌, ◌==◌, ℕ, zero,
 use Rattle.std.specs.Prelude.{slice_get, slice_set}
 use Rattle.std.specs.Option.{option_map}
 use Rattle.hurd_ports.specs.declared.table.Port.{Port}
-use Rattle.hurd_ports.specs.declared.table.PendingStart.{PendingStart}
 use Rattle.hurd_ports.specs.declared.table.Right.{Right}
 use Rattle.hurd_ports.specs.Tables.{Task}
 use Rattle.hurd_ports.specs.Steps.{edit_at, edit_task, named, ports_without, received, with_port, with_sent, without_port}
-use Rattle.hurd_machine.specs.Renamed.{OtherNames, port_renamed, right_renamed, start_renamed, task_renamed, tasks_renamed}
+use Rattle.hurd_machine.specs.Renamed.{OtherNames, port_renamed, right_renamed, task_renamed, tasks_renamed}
 use Rattle.hurd_machine.proofs.RenamedTasks.{slice_get-renamed}
 
 pub mapped_both : {A B : Type 0} (g : A → B) (xs ys : List A) → map g (xs ++ ys) ≡ map g xs ++ map g ys

@@ -36,6 +36,7 @@ pub record Row : Type 1 where
 abbrev pub taking_if : Bool → Plan → (Part → Type 0) → Row
 taking_if takes plan touches = record { plan = plan; touches = touches; takes = takes; free = ⊥ }
 
+-- it takes memory, and always needs some
 abbrev pub taking : Plan → (Part → Type 0) → Row
 taking = taking_if true
 
@@ -88,21 +89,25 @@ row_of w t (Plain (DirUnlink p name)) = calm (plan_unlink w t p name) (touches_u
 row_of w t (Plain (DirLink p name q)) = taking (plan_link w t p name q) (touches_link w t p name q)
 row_of w t (Plain (DirRename p name q new)) = taking (plan_rename w t p name q new) (touches_rename w t p name q new)
 
-abbrev pub row : World → ℕ → Call → Plan
-row w t c = (row_of w t c).plan
+-- what a call answers and changes, before a refusal gives the box back that it brought
+abbrev pub plan_of : World → ℕ → Call → Plan
+plan_of w t c = (row_of w t c).plan
 
+-- the parts that a call touches, beside its task
 abbrev pub touches : World → ℕ → Call → Part → Type 0
 touches w t c = (row_of w t c).touches
 
+-- whether a call takes memory, and so may find none
 abbrev pub takes_memory : World → ℕ → Call → Bool
 takes_memory w t c = (row_of w t c).takes
 
+-- a call that takes memory needs none in this world
 abbrev pub NeedsNone : World → ℕ → Call → Type 0
 NeedsNone w t c = (row_of w t c).free
 
 -- with the box back that a refused call brought
 abbrev pub plan : World → ℕ → Call → Plan
-plan w t c = returning (box_in c) (row w t c)
+plan w t c = returning (box_in c) (plan_of w t c)
 
 abbrev pub reply_of : World → ℕ → Call → Reply
 reply_of w t c = (plan w t c).reply

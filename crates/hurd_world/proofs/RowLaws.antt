@@ -5,7 +5,7 @@ use Rattle.std.proofs.Common.{◌≡◌, ◌⊎◌, inl, inr, ℕ, false, List, 
 use Rattle.hurd_machine.proofs.Common.{Call, Errno, Meaning, Mode, OpenFlags, Plan, Reply, World, after_plan, call_by, handing_back, is_refused, refusal, reply_by, told}
 use Rattle.hurd_trans_iface.specs.Meaning.{Begins}
 use Rattle.hurd_machine.specs.declared.call.Call as code
-use Rattle.hurd_machine.specs.declared.call.Call.TheVariants.{Plain, FileSetTranslator}
+use Rattle.hurd_machine.specs.declared.call.Call.TheVariants.{Plain, FileSetTranslator, FsysStartup}
 use Rattle.hurd_machine.specs.declared.call.PlainCall.TheVariants.{DirLookup}
 use Rattle.hurd_machine.specs.declared.call.Reply as code_reply
 use Rattle.hurd_machine.specs.declared.call.Reply.TheVariants.{Done, Found, Port, Data, Count, Names, Words, Stat, Modes, Same, Refused, Back}
@@ -13,12 +13,13 @@ use Rattle.hurd_machine.specs.declared.call.Lookup as code_lookup
 use Rattle.hurd_machine.specs.declared.call.Setting.{Setting}
 use Rattle.hurd_machine.specs.Plan.{Follows}
 use Rattle.hurd_core.specs.Core.{without_box}
-use Rattle.hurd_lookup.specs.Lacking.{PlannedOr}
+use Rattle.hurd_lookup.specs.Lacking.{PlannedOr, TriedOr}
 use Rattle.hurd_lookup.specs.Seeking.{LookupLacks, plan_lookup}
 use Rattle.hurd_fsys.specs.Setting.{SetLacks, plan_set_translator}
+use Rattle.hurd_fsys.specs.Starting.{StartLacks, plan_startup}
 use Rattle.hurd_laws.specs.Called.{Called}
 use Rattle.hurd_laws.specs.Step.{after, reply_of}
-use Rattle.hurd_world.specs.Held.{ComesBack, set_told, told_of}
+use Rattle.hurd_world.specs.Held.{ComesBack, set_told, start_told, told_of}
 
 -- a call that made its step
 stepped : (w x : World) (t : ℕ) (c : Call) (reply : Reply) → reply ≡ reply_of w t c → x ≡ after w t c → Called w t c reply x
@@ -98,6 +99,26 @@ module _ {S : Type 0} (f : S → Meaning) (v w : World) (t : ℕ) (call : code.C
     set_row server (Ok u) got x is same left so planned free back = owed (asked server) Done x is (same ∙ so) left (set_done server u x planned) tt
     set_row server (Err e) got x is same left so planned free back =
         owed (asked server) (refusal server e.0) x is (same ∙ so ∙ ap (λ (o : Option S). refusal o e.0) back) left (set_refused server e.0 x planned free) (comes_back server e.0)
+
+  -- a call that brings a box
+
+  abbrev StartMet : S → Result (Unit {0}) Errno → World → Type 0
+  StartMet server r x = TriedOr (StartLacks w t (f server)) w (plan_startup w t (f server)) (λ u. Done) r x
+
+  start_done : (server : S) (u : Unit {0}) (x : World) → StartMet server (Ok u) x → Called w t (FsysStartup (f server)) Done x
+  start_done server u x (inl h) = stepped w x t _ Done (ap (handing_back (f server)) h.0) h.1
+  start_done server u x (inr h) = absurd (cc (h.0))
+
+  start_refused : (server : S) (e : Errno) (x : World) → StartMet server (Err e) x → Called w t (FsysStartup (f server)) (Back e (f server)) x
+  start_refused server e x (inl h) = stepped w x t _ (Back e (f server)) (ap (handing_back (f server)) h.0) h.1
+  start_refused server e x (inr (lacks, (same, wanted))) =
+      inr (record { told = cc (lacks); takes = refl; needs = λ n. n; wanted = wants (f server) (plan_startup w t (f server)).reply wanted; same = same })
+
+  pub start_row : (server : S) (r : Result (Unit {0}) (Errno × S)) (got : code_reply.Reply S) (x : World) → call ≡ FsysStartup server → reply ≡ got → y ≡ x → got ≡ start_told r
+      → StartMet server (without_box r) x → IfErr r (λ e. e.1 ≡ server) → Owes
+  start_row server (Ok u) got x is same left so tried back = owed (FsysStartup server) Done x is (same ∙ so) left (start_done server u x tried) tt
+  start_row server (Err e) got x is same left so tried back =
+      owed (FsysStartup server) (Back e.0 server) x is (same ∙ so ∙ ap (λ (s : S). Back e.0 s) back) left (start_refused server e.0 x tried) refl
 
 -- the condition on a box, as the row wants it
 pub begun_box : {S : Type 0} (f : S → Meaning) (server : Option S) → IfSome (option_map f server) Begins → IfSome server (λ s. Begins (f s))

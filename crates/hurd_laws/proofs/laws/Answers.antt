@@ -1,13 +1,11 @@
-use Rattle.hurd_laws.proofs.Assembled.{changes_touched, gone_unseen, never_wants_memory, others_unseen, own_from_view, stays_sound}
+use Rattle.hurd_laws.proofs.Assembled.{after_renamed, changes_touched, gone_unseen, names_untold, never_wants_memory, others_unseen, own_from_view, stays_sound}
 use Rattle.hurd_laws.proofs.StaysConfined.{confined, confined_run}
 use Rattle.hurd_laws.proofs.Headline.{isolated, isolated_by_view, quiet_unmoved, side_by_side, view_settled}
-use Rattle.hurd_laws.proofs.ReasonsStep.{integrity}
+use Rattle.hurd_laws.proofs.Integrity.{integrity}
 use Rattle.hurd_laws.proofs.SparedRun.{integrity_run}
-use Rattle.hurd_laws.proofs.Untold.{names_untold}
 use Rattle.hurd_laws.proofs.SoundRenamed.{renamed_sound}
 use Rattle.hurd_laws.proofs.SideBySide.{side_by_side_renamed}
 use Rattle.hurd_laws.proofs.Raised.{raised_looks_same}
-use Rattle.hurd_laws.proofs.After.{after_renamed}
 use Rattle.hurd_laws.proofs.OwnLooks.{own_from_looks}
 use Rattle.hurd_laws.proofs.laws.Goals as goal
 
