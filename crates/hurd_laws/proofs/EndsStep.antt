@@ -5,7 +5,7 @@ use Rattle.hurd_creds.specs.TransBits.{ORPHAN}
 use Rattle.hurd_trans_iface.specs.Nodes.{Edit, OnHeader, OnBody, AddNode}
 use Rattle.hurd_creds.specs.declared.open_flags.OpenFlags.{OpenFlags}
 use Rattle.hurd_ports.specs.declared.table.PendingStart.{PendingStart}
-use Rattle.hurd_machine.proofs.Common.{Call, Change, DropServer, EditBody, EditHeader, Errno, IdSets, Meaning, Name, Named, Plan, SET, ServerInfo, Settle, Task, Unseat, World, answered, asks_trans, box_in, changes_of, open_of, same_name}
+use Rattle.hurd_machine.proofs.Common.{Call, Change, DropServer, EditHeader, Errno, IdSets, Meaning, Name, Named, Plan, SET, ServerInfo, Settle, Task, Unseat, World, answered, asks_trans, box_in, changes_of, open_of}
 use Rattle.hurd_machine.specs.declared.call.Setting.{Setting}
 use Rattle.hurd_machine.specs.Change.{letting_go, retexting}
 use Rattle.hurd_machine.specs.Plan.{returning}
@@ -18,15 +18,15 @@ use Rattle.hurd_core.specs.Core.{attaching, leaving, starting_over}
 use Rattle.hurd_io.proofs.Touching.{moved_all}
 use Rattle.hurd_lookup.specs.Lookup.{Makes, Opens, Outcome, Retries, Starts, lookup_changes}
 use Rattle.hurd_lookup.specs.Lent.{server_ids}
-use Rattle.hurd_trans_iface.specs.Nodes.{unlinked, with_passive, without_entry}
-use Rattle.hurd_trans_iface.specs.Answers.{entering}
+use Rattle.hurd_trans_iface.specs.Nodes.{with_passive}
+use Rattle.hurd_trans_iface.specs.Answers.{entering, is_one}
 use Rattle.hurd_trans_iface.specs.Behaviour.{edits_of}
 use Rattle.hurd_ports.specs.Tables.{fresh}
 use Rattle.hurd_trans_iface.specs.Meaning.{keeps_tree, size_of}
 use Rattle.hurd_nodes.specs.Shown.{own_nodes, sizing_unless}
 use Rattle.hurd_fsys.specs.Setting.{leaver, seat_on, emptying, storing, seated, setting_where, sets_nothing}
 use Rattle.hurd_fsys.specs.Starting.{Startup, started, startup_asks}
-use Rattle.hurd_dirs.specs.Rename.{moves, renames}
+use Rattle.hurd_dirs.specs.Rename.{moves}
 use Rattle.hurd_laws.specs.Step.{plan, row}
 use Rattle.hurd_laws.proofs.Ends.{Ends, Never, Last}
 
@@ -141,9 +141,8 @@ row_ends w t (DirMkfile p flags mode) = ends_answered _ _ (λ a. ends_answered _
 row_ends w t (DirRmdir p name) = ends_answered _ _ (λ x. ends_cons tt (one_ends tt))
 row_ends w t (DirUnlink p name) = ends_answered _ _ (λ x. ends_cons tt (one_ends tt))
 row_ends w t (DirLink p name q) = ends_answered _ _ (λ n. ends_answered _ _ (λ u. Never (tt, (tt, tt))))
-row_ends w t (DirRename p name q new) = ends_answered _ _ (λ r.
-    by_option (λ o. Ends (renames name new r o)) (ends_cons tt (ends_cons tt (ends_cons tt settle_ends)))
-    (λ m. by_bool (λ b. Ends (if b then [] else EditBody r.to (without_entry new) ∷ EditHeader m unlinked ∷ moves name new r)) (Never tt) (ends_cons tt (ends_cons tt (ends_cons tt (ends_cons tt (ends_cons tt settle_ends))))) (same_name m r.node)) r.old)
+row_ends w t (DirRename p name q new) = ends_answered _ _ (λ r. by_bool (λ b. Ends (if b then [] else moves name new r r.old)) (Never tt)
+    (by_option (λ o. Ends (moves name new r o)) (ends_cons tt (ends_cons tt (ends_cons tt settle_ends))) (λ m. ends_cons tt (ends_cons tt (ends_cons tt (ends_cons tt (ends_cons tt settle_ends))))) r.old) (is_one r.node r.old))
 row_ends w t c = ends_answered _ _ (λ a. Never search)
 
 ends_returned : (o : Option Meaning) (P : Plan) → Ends P.changes → Ends (returning o P).changes

@@ -4,7 +4,7 @@ use Rattle.std.specs.Prelude.{Result, Ok, Err}
 use Rattle.hurd_creds.specs.TransBits.{ORPHAN}
 use Rattle.hurd_creds.specs.declared.open_flags.OpenFlags.{OpenFlags}
 use Rattle.hurd_ports.specs.declared.table.PendingStart.{PendingStart}
-use Rattle.hurd_machine.proofs.Common.{Call, Change, DropServer, EditBody, EditHeader, Errno, IdSets, Meaning, Name, Named, Plan, SET, ServerInfo, Settle, Task, Unseat, World, answered, asks_trans, box_in, changes_of, open_of, same_name}
+use Rattle.hurd_machine.proofs.Common.{Call, Change, DropServer, EditHeader, Errno, IdSets, Meaning, Name, Named, Plan, SET, ServerInfo, Settle, Task, Unseat, World, answered, asks_trans, box_in, changes_of, open_of}
 use Rattle.hurd_machine.specs.declared.call.Setting.{Setting}
 use Rattle.hurd_machine.specs.Change.{letting_go, retexting}
 use Rattle.hurd_machine.specs.Plan.{returning}
@@ -15,15 +15,15 @@ use Rattle.hurd_core.specs.Core.{attaching, leaving, starting_over}
 use Rattle.hurd_io.proofs.Touching.{moved_all}
 use Rattle.hurd_lookup.specs.Lookup.{Makes, Opens, Outcome, Retries, Starts, lookup_changes}
 use Rattle.hurd_lookup.specs.Lent.{server_ids}
-use Rattle.hurd_trans_iface.specs.Nodes.{unlinked, with_passive, without_entry}
-use Rattle.hurd_trans_iface.specs.Answers.{entering}
+use Rattle.hurd_trans_iface.specs.Nodes.{with_passive}
+use Rattle.hurd_trans_iface.specs.Answers.{entering, is_one}
 use Rattle.hurd_trans_iface.specs.Behaviour.{edits_of}
 use Rattle.hurd_ports.specs.Tables.{fresh}
 use Rattle.hurd_trans_iface.specs.Meaning.{keeps_tree, size_of}
 use Rattle.hurd_nodes.specs.Shown.{own_nodes, sizing, sizing_unless}
 use Rattle.hurd_fsys.specs.Setting.{leaver, seat_on, emptying, storing, seated, setting_where, sets_nothing}
 use Rattle.hurd_fsys.specs.Starting.{Startup, started, startup_asks}
-use Rattle.hurd_dirs.specs.Rename.{moves, renames}
+use Rattle.hurd_dirs.specs.Rename.{moves}
 use Rattle.hurd_laws.specs.Step.{plan, row}
 use Rattle.std.specs.Prelude.{is_some}
 use Rattle.hurd_trans_iface.specs.Nodes.{Header}
@@ -211,10 +211,12 @@ module _ (S : ℕ → Bool) (w : World) where
     row_reasons (DirRmdir p name) = reasoned _ _ (λ x is. removing_reasons name x (rmdir_removes t ours p name x is))
     row_reasons (DirUnlink p name) = reasoned _ _ (λ x is. removing_reasons name x (unlink_removes t ours p name x is))
     row_reasons (DirLink p name q) = reasoned _ _ (λ a is. let by = link_names t ours p name q a.dir a.file is in reasoned _ _ (λ u links. cons (enter_by by.enters name a.file) (cons (link_by (GetsName by.names)) none)))
-    row_reasons (DirRename p name q new) = reasoned _ _ (λ r is. let by = rename_moves t ours p name q new r.from r.to r.node r.old is in
-        by_option_is (λ o. Reasons S w (renames name new r o)) r.old (λ e. cons (take_by name r.node by.takes) (cons (move_by (takes_node by.takes) r.to) (cons (enter_by by.comes new r.node) settling)))
-        (λ m e. by_bool_is (λ b. Reasons S w (if b then [] else EditBody r.to (without_entry new) ∷ EditHeader m unlinked ∷ moves name new r)) (same_name m r.node) (λ same. none)
-        (λ apart. cons (take_by new m (by.gives m e apart)) (cons (unlink_by (takes_node (by.gives m e apart))) (cons (take_by name r.node by.takes) (cons (move_by (takes_node by.takes) r.to) (cons (enter_by by.comes new r.node) settling)))))))
+    row_reasons (DirRename p name q new) = reasoned _ _ (λ r is.
+        let by = rename_moves t ours p name q new r.from r.to r.node r.old is in
+        let goes : Reasons S w (moves name new r None) = cons (take_by name r.node by.takes) (cons (move_by (takes_node by.takes) r.to) (cons (enter_by by.comes new r.node) settling)) in
+        by_bool_is (λ b. Reasons S w (if b then [] else moves name new r r.old)) (is_one r.node r.old) (λ there. none) (λ other.
+        by_option_is (λ o. Reasons S w (moves name new r o)) r.old (λ e. goes) (λ m e.
+        let taken = by.gives m e (ap (is_one r.node) (sym e) ∙ other) in cons (take_by new m taken) (cons (unlink_by (takes_node taken)) goes))))
     row_reasons c = reasoned _ _ (λ a is. AreReasoned search)
 
     returned_reasons : (o : Option Meaning) (P : Plan) → Reasons S w P.changes → Reasons S w (returning o P).changes
