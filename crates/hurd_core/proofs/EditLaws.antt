@@ -1,8 +1,8 @@
 -- What servers do to nodes where their entries come, go and move, by the core, is what the machine's changes make of the world.
-use Rattle.std.proofs.Common.{arith, ◌≡◌, true, List, [], ◌∷◌, Option, Some, None, ℕ, refl}
+use Rattle.std.proofs.Common.{arith, ◌≡◌, true, List, [], ◌∷◌, Option, ℕ, refl}
 use Rattle.std.proofs.lemmas.Grind.{common_steps}
 use Rattle.std.specs.Prelude.{Result, Ok, Err}
-use Rattle.hurd_machine.proofs.Common.{AddNode, Change, Edit, EditHeader, Errno, HeaderEdit, Name, NameMap, NodeState, OnBody, OnHeader, PortState, Site, Steps, World, answered, apply_all, body_of, changes_of, edit_header_at, edits_if, entry_of, header_after, home_in, links_at, own_edits, renames_at, told, with_edits, world_from}
+use Rattle.hurd_machine.proofs.Common.{AddNode, Edit, EditHeader, Errno, HeaderEdit, Name, NameMap, NodeState, OnBody, OnHeader, PortState, Site, Steps, World, answered, apply_all, body_of, changes_of, edit_header_at, edits_if, entry_of, header_after, home_in, links_at, own_edits, renames_at, told, with_edits, world_from}
 use Rattle.hurd_trans_iface.specs.Answers.{header_edits, link_edits}
 use Rattle.hurd_nodes.specs.Shown.{can_link, can_rename, can_set_attrs, can_unlink, link_at, rename_at, rename_edits_at, unlink_at, unlink_edits_at}
 use Rattle.hurd_machine.specs.declared.call.Reply.TheVariants.{Done}

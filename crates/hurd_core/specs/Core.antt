@@ -20,7 +20,7 @@ use Rattle.hurd_ports.specs.Tables.{PortState, Task, Tables, coded_tables, fresh
 use Rattle.hurd_ports.specs.declared.parents.Parent.{Parent}
 use Rattle.hurd_ports.specs.declared.table.Right.{Right}
 use Rattle.hurd_ports.specs.Steps.{named, edit_task, with_pending}
-use Rattle.hurd_machine.specs.World.{World, world_from, nodes_of, ports_of, task_at, home_at, makes_at}
+use Rattle.hurd_machine.specs.World.{World, world_from, ports_of, task_at, home_at, makes_at}
 use Rattle.hurd_machine.specs.Change.{Attach, Change, DropServer, EditTask, MakeNode, Settle, apply_all, changes_of, opening}
 use Rattle.hurd_machine.specs.Plan.{on, given, first}
 use Rattle.hurd_core.specs.declared.to_make.ServerToMake.{ServerToMake}

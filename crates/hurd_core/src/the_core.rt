@@ -2,7 +2,6 @@
 ghost use Rattle.std.specs.Prelude.{◌≡◌, [], ◌∷◌, Some, None, Ok, IfErr, IfOk};
 ghost use Rattle.std.specs.Option.{option_map};
 ghost use Rattle.hurd_trans_iface.specs.Answers.{header_after, link_edits};
-ghost use Rattle.hurd_trans_iface.specs.Nodes.{linked, with_entry};
 ghost use Rattle.hurd_trans_iface.specs.Behaviour.{edits_of, reading, told_of, writing, resizing};
 ghost use Rattle.hurd_trans_iface.specs.Meaning.{Begins};
 ghost use Rattle.hurd_nodes.specs.Shown.{booted, rename_edits_at, shown, state_of, unlink_edits_at};
@@ -10,7 +9,7 @@ ghost use Rattle.hurd_nodes.specs.Needs.{FreeRead, FreeSize, FreeWrite};
 ghost use Rattle.hurd_ports.specs.Tables.{right_of, task_of};
 ghost use Rattle.hurd_ports.specs.Steps.{appending, at_cursor, received, with_ids, with_port};
 ghost use Rattle.hurd_machine.specs.World.{world_from, nodes_of, ports_of, asked_at, ends_at, links_at, readers_at, renames_at, sets_attrs_at, unlinks_at, writers_at};
-ghost use Rattle.hurd_machine.specs.Change.{DropServer, EditBody, EditHeader, EditOpen, EditTask, Send, Settle, Unseat, apply, apply_all, changes_of, dropping, opening, pending, settle};
+ghost use Rattle.hurd_machine.specs.Change.{DropServer, EditHeader, EditOpen, EditTask, Send, Settle, Unseat, apply, apply_all, changes_of, dropping, opening, pending, settle};
 ghost use Rattle.hurd_machine.specs.Plan.{Follows, Planned, answered, told};
 ghost use Rattle.hurd_machine.specs.declared.call.Reply.TheVariants.{Done};
 ghost use Rattle.hurd_core.specs.Core.{Does, attaching, naming_asks, without_box, making_asks, making_dir, making_dir_asks, making_open, receive_asks, room_asks, send_asks, settled_edits, started_over, world_of};
