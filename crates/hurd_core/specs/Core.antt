@@ -9,18 +9,18 @@ use Rattle.hurd_creds.specs.declared.attrs.Kind.TheVariants.{File, Dir}
 use Rattle.hurd_creds.specs.declared.errno.Errno.{Errno}
 use Rattle.hurd_creds.specs.declared.errno.Errno.TheVariants.{EDIED, ENOMEM, EOVERFLOW, ESRCH, EWOULDBLOCK}
 use Rattle.hurd_creds.specs.Access.{IdSets}
-use Rattle.hurd_trans_iface.specs.Nodes.{Node, new_file, new_dir}
+use Rattle.hurd_trans_iface.specs.Nodes.{Edit, Node, new_file, new_dir}
 use Rattle.hurd_trans_iface.specs.Answers.{entering, named_by}
 use Rattle.hurd_trans_iface.specs.declared.new_node.NewNode.{NewNode}
 use Rattle.hurd_trans_iface.specs.Meaning.{Meaning}
 use Rattle.hurd_nodes.specs.Held.{Held, coded_held}
 use Rattle.hurd_nodes.specs.declared.seat.Place.{Place}
-use Rattle.hurd_nodes.specs.Shown.{begun_info, begun_root, shown, unlink_edits_at, rename_edits_at}
+use Rattle.hurd_nodes.specs.Shown.{begun_info, begun_root, shown}
 use Rattle.hurd_ports.specs.Tables.{PortState, Task, Tables, coded_tables, fresh, can_name, has_room, first_sent, right_of}
 use Rattle.hurd_ports.specs.declared.parents.Parent.{Parent}
 use Rattle.hurd_ports.specs.declared.table.Right.{Right}
 use Rattle.hurd_ports.specs.Steps.{named, edit_task, with_pending}
-use Rattle.hurd_machine.specs.World.{World, world_from, nodes_of, ports_of, task_at, home_at, makes_at}
+use Rattle.hurd_machine.specs.World.{World, world_from, ports_of, task_at, home_at, makes_at}
 use Rattle.hurd_machine.specs.Change.{Attach, Change, DropServer, EditTask, MakeNode, Settle, apply_all, changes_of, opening}
 use Rattle.hurd_machine.specs.Plan.{on, given, first}
 use Rattle.hurd_core.specs.declared.to_make.ServerToMake.{ServerToMake}
@@ -100,18 +100,14 @@ making_dir_asks w t f =
 abbrev pub making_dir : ℕ → NewNodeAt → Task × Name → List Change
 making_dir t f a = making t a.0 a.1 f (new_dir f.owner f.group f.mode (Some f.dir))
 
--- an entry taken out of a directory: its server changes nodes of its own, and what nothing names then goes
-abbrev pub unlinking : World → Name → List ℕ → List Change
-unlinking w d name = changes_of (unlink_edits_at d name (nodes_of w)) ++ Settle ∷ []
+-- what a server does to nodes, and then what nothing keeps goes
+abbrev pub settled_edits : List Edit → List Change
+settled_edits es = changes_of es ++ Settle ∷ []
 
 -- whether something is answered, whatever it is
 abbrev pub asked_only : {A : Type 0} → Result A Errno → Result (Unit {0}) Errno
 asked_only (Ok a) = Ok tt
 asked_only (Err e) = Err e
-
--- what a server does where an entry goes to another of its directories, and that what nothing keeps then goes
-abbrev pub renaming : World → Name → List ℕ → Name → List ℕ → List Change
-renaming w d name e new = changes_of (rename_edits_at d name e new (nodes_of w)) ++ Settle ∷ []
 
 -- where a server is to stand under a name: its root has the name after it
 abbrev pub placed : ServerToMake → Name → Place

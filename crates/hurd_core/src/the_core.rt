@@ -1,19 +1,18 @@
 //! The core.
 ghost use Rattle.std.specs.Prelude.{◌≡◌, [], ◌∷◌, Some, None, Ok, IfErr, IfOk};
 ghost use Rattle.std.specs.Option.{option_map};
-ghost use Rattle.hurd_trans_iface.specs.Answers.{header_after};
-ghost use Rattle.hurd_trans_iface.specs.Nodes.{linked, with_entry};
+ghost use Rattle.hurd_trans_iface.specs.Answers.{header_after, link_edits};
 ghost use Rattle.hurd_trans_iface.specs.Behaviour.{edits_of, reading, told_of, writing, resizing};
 ghost use Rattle.hurd_trans_iface.specs.Meaning.{Begins};
-ghost use Rattle.hurd_nodes.specs.Shown.{booted, shown, state_of};
+ghost use Rattle.hurd_nodes.specs.Shown.{booted, rename_edits_at, shown, state_of, unlink_edits_at};
 ghost use Rattle.hurd_nodes.specs.Needs.{FreeRead, FreeSize, FreeWrite};
 ghost use Rattle.hurd_ports.specs.Tables.{right_of, task_of};
 ghost use Rattle.hurd_ports.specs.Steps.{appending, at_cursor, received, with_ids, with_port};
 ghost use Rattle.hurd_machine.specs.World.{world_from, nodes_of, ports_of, asked_at, ends_at, links_at, readers_at, renames_at, sets_attrs_at, unlinks_at, writers_at};
-ghost use Rattle.hurd_machine.specs.Change.{DropServer, EditBody, EditHeader, EditOpen, EditTask, Send, Settle, Unseat, apply, apply_all, changes_of, dropping, opening, pending, settle};
+ghost use Rattle.hurd_machine.specs.Change.{DropServer, EditHeader, EditOpen, EditTask, Send, Settle, Unseat, apply, apply_all, changes_of, dropping, opening, pending, settle};
 ghost use Rattle.hurd_machine.specs.Plan.{Follows, Planned, answered, told};
 ghost use Rattle.hurd_machine.specs.declared.call.Reply.TheVariants.{Done};
-ghost use Rattle.hurd_core.specs.Core.{Does, attaching, naming_asks, without_box, making_asks, making_dir, making_dir_asks, making_open, receive_asks, room_asks, send_asks, started_over, unlinking, world_of, renaming};
+ghost use Rattle.hurd_core.specs.Core.{Does, attaching, naming_asks, without_box, making_asks, making_dir, making_dir_asks, making_open, receive_asks, room_asks, send_asks, settled_edits, started_over, world_of};
 ghost use Rattle.hurd_core.specs.Control.{plan_options};
 ghost use Rattle.hurd_core.specs.ToMake.{new_node_of};
 ghost use Rattle.hurd_core.specs.Users.{home_of};
@@ -378,8 +377,7 @@ impl<S: Server> Core<S> {
         node: NodeName,
     ) -> Result<(), Errno>
         ensures { let w = world_of S.meaning self.old in
-            Does w (links_at w dir name.now node) (λ u. EditBody dir (with_entry name.now node) ∷ EditHeader node linked ∷ []) (λ u. tt) result
-            (world_of S.meaning self.new) }
+            Does w (links_at w dir name.now node) (λ u. changes_of (link_edits dir name.now node)) (λ u. tt) result (world_of S.meaning self.new) }
     {
         self.nodes.link(alloc, dir, name, node)
     }
@@ -390,7 +388,7 @@ impl<S: Server> Core<S> {
     /// Errors, in order: `EDIED` no such directory, `ENOTDIR`, `EROFS` its server keeps no tree, `ENOENT`.
     pub fn unlink(&mut self, dir: NodeName, name: &[u8]) -> Result<(), Errno>
         ensures { let w = world_of S.meaning self.old in
-            Follows w (answered (unlinks_at w dir name.now) (λ u. record { reply = Done; changes = unlinking w dir name.now }))
+            Follows w (answered (unlinks_at w dir name.now) (λ u. record { reply = Done; changes = settled_edits (unlink_edits_at dir name.now (nodes_of w)) }))
             (told (λ u. Done) result) (world_of S.meaning self.new) }
     {
         self.nodes.unlink(dir, name)?;
@@ -412,7 +410,7 @@ impl<S: Server> Core<S> {
         new: &[u8],
     ) -> Result<(), Errno>
         ensures { let w = world_of S.meaning self.old in
-            Does w (renames_at w dir name.now to) (λ u. renaming w dir name.now to new.now) (λ u. tt) result
+            Does w (renames_at w dir name.now to) (λ u. settled_edits (rename_edits_at dir name.now to new.now (nodes_of w))) (λ u. tt) result
             (world_of S.meaning self.new) }
     {
         self.nodes.rename(alloc, dir, name, to, new)?;

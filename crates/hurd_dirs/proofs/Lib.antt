@@ -2,7 +2,6 @@ pub mod EntryLaws
 pub mod MakeLaws
 pub mod LinkLaws
 pub mod ClimbLaws
-pub mod OrderLaws
 pub mod RenameLaws
 pub mod RemoveLaws
 pub mod FileLaws

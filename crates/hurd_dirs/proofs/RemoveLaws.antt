@@ -1,14 +1,15 @@
 -- The laws of taking entries out of directories.
-use Rattle.std.proofs.Common.{◌≡◌, ◌∙◌, ℕ, Bool, true, false, not, true≢false, List, [], ◌∷◌, Option, Some, None, refl, sym, ap, ap₂, subst, inl, inr}
+use Rattle.std.proofs.Common.{◌≡◌, ◌∙◌, ℕ, Bool, true, false, not, true≢false, List, [], Option, Some, None, refl, sym, ap, ap₂, subst, inl, inr}
 use Rattle.std.specs.Prelude.{Result, Ok, is_some}
 use Rattle.std.specs.Option.{option_map}
-use Rattle.hurd_machine.proofs.Common.{Body, BodyOf, Coherent, Content, Dir, EACCES, EBUSY, EDIED, EISDIR, ENOENT, ENOTDIR, ENOTEMPTY, EditBody, EditHeader, EmptyOf, Errno, Header, Listing, Name, Named, Node, Reply, Seen, Sees, ServerInfo, Settle, World, active_at, answered, are_kin, asked_parts, body_at, entry_of, get, header_at, home_at, info_at, info_in, is_dir, is_empty_dir, lists_at, tree_by, unlinked, without_entry}
+use Rattle.hurd_machine.proofs.Common.{Body, BodyOf, Coherent, Content, Dir, EACCES, EBUSY, EDIED, EISDIR, ENOENT, ENOTDIR, ENOTEMPTY, EmptyOf, Errno, Header, Listing, Name, Named, Node, Reply, Seen, Sees, ServerInfo, World, active_at, answered, are_kin, asked_parts, body_at, entry_of, get, header_at, home_at, info_at, info_in, is_dir, is_empty_dir, lists_at, tree_by}
 use Rattle.std.proofs.lemmas.Bool.{not-true}
 use Rattle.hurd_creds.proofs.NameLaws.{same_name-itself}
+use Rattle.hurd_trans_iface.specs.Answers.{unlink_edits}
 use Rattle.hurd_trans_iface.proofs.Goods.{good}
-use Rattle.hurd_nodes.specs.Shown.{unlink_by}
+use Rattle.hurd_nodes.specs.Shown.{unlink_by, unlink_edits_at}
 use Rattle.hurd_machine.specs.declared.call.Reply.TheVariants.{Done}
-use Rattle.hurd_machine.specs.World.{unlinks_at}
+use Rattle.hurd_machine.specs.World.{nodes_of, unlinks_at}
 use Rattle.hurd_machine.specs.Plan.{Follows}
 use Rattle.hurd_machine.proofs.Nodes.{header_in, body_in, node_of_header}
 use Rattle.hurd_machine.proofs.Coherence.{entry_lists}
@@ -18,7 +19,7 @@ use Rattle.hurd_machine.proofs.Lasts.{recounts_unlinked}
 use Rattle.hurd_machine.proofs.Removals.{MayRemove, unlinking_piece}
 use Rattle.hurd_machine.proofs.Asks.{IsPlain, on_ok, given_ok, first_ok, on_same, given_same, first_same, on_plain, given_plain, first_plain, ok_plain, answered_same, answered_plain, done_plain}
 use Rattle.hurd_machine.proofs.CallLaws.{CallLaws, answered_piece}
-use Rattle.hurd_core.specs.Core.{unlinking}
+use Rattle.hurd_core.specs.Core.{settled_edits}
 use Rattle.hurd_dirs.specs.Entry.{entry_asks, may_take}
 use Rattle.hurd_dirs.specs.Remove.{Entered, OnEntry, is_empty_at, found_asks, taking_asks, removing, unlink_asks, plan_unlink, touches_unlink, rmdir_asks, plan_rmdir, touches_rmdir}
 use Rattle.hurd_dirs.proofs.EntryLaws.{IsEntryAt, dir_kind, entry_at, entry_seen, entry_same, entry_plain, child_seen, child_empty}
@@ -52,7 +53,7 @@ kin_itself None q h = absurd (cc)
 kin_itself (Some s) q h = same_name-itself s
 
 -- where all edits are of the directory's server, it makes all of them
-all_own : (w : World) (t p : ℕ) (name : List ℕ) (x : Entered) (k : IsTaking w t p name x) → unlinking w x.dir name ≡ EditBody x.dir (without_entry name) ∷ EditHeader x.node unlinked ∷ Settle ∷ []
+all_own : (w : World) (t p : ℕ) (name : List ℕ) (x : Entered) (k : IsTaking w t p name x) → unlink_edits_at x.dir name (nodes_of w) ≡ unlink_edits x.dir name (Some x.node)
 all_own w t p name x k = let d = k.at.right.node in rw (← k.on_dir, k.entry, kin_itself (home_at w d) (home_at w x.node) k.kin, k.kin) refl
 
 -- an entry that is there in a directory of a tree is taken out
@@ -64,7 +65,7 @@ unlinks w d name n h at dir tree is = go (info_at w d) (get w.nodes d) at tree i
     go _ _ eh et en = absurd (cc)
 
 pub removing-follows : (w : World) (t p : ℕ) (name : List ℕ) (asks : Result Entered Errno) (x : Entered) (r : Reply) (y : World) → asks ≡ Ok x → IsTaking w t p name x
-    → Follows w (answered (unlinks_at w x.dir name) (λ u. record { reply = Done; changes = unlinking w x.dir name })) r y → Follows w (answered asks (removing name)) r y
+    → Follows w (answered (unlinks_at w x.dir name) (λ u. record { reply = Done; changes = settled_edits (unlink_edits_at x.dir name (nodes_of w)) })) r y → Follows w (answered asks (removing name)) r y
 unfolding answered
 removing-follows w t p name asks x r y is k f =
     let e = k.is_entry in

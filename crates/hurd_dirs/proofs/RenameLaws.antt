@@ -1,15 +1,15 @@
 -- The laws of renames.
-use Rattle.std.proofs.Common.{◌≡◌, ◌≢◌, ◌⊎◌, ◌∙◌, ℕ, ◌&&◌, ◌||◌, not, Bool, true, false, true≢false, if◌then◌else◌, List, [], ◌∷◌, ◌++◌, Option, Some, None, refl, sym, subst, inl, inr, ap, ap₂}
-use Rattle.std.specs.Prelude.{Result, Ok, Err, is_some}
+use Rattle.std.proofs.Common.{◌≡◌, ◌≢◌, ◌⊎◌, ◌∙◌, ℕ, ◌&&◌, ◌||◌, not, Bool, true, false, true≢false, if◌then◌else◌, List, [], ◌++◌, Option, Some, None, refl, sym, subst, inl, inr, ap, ap₂}
+use Rattle.std.specs.Prelude.{Result, Ok, is_some}
 use Rattle.std.specs.Option.{option_map}
-use Rattle.hurd_machine.proofs.Common.{AnEmpty, AttrOf, Body, BodyOf, Change, Coherent, Dir, EACCES, EBUSY, EDIED, EINVAL, EISDIR, ENOENT, ENOTDIR, ENOTEMPTY, EROFS, EXDEV, EditBody, EditHeader, EmptyOf, Errno, Header, LeadsUp, Linked, Listing, Name, Named, Node, NodeMap, Part, Plan, Planned, Seen, Sees, ServerInfo, Sound, World, active_at, apply, apply_all, are_kin, body_at, both_asks, edit, entry_of, get, header_at, home_at, info_at, is_dir, is_empty_dir, is_removed, less_entry, lists_at, may, moved_to, renames_at, same_name, tree_by, unlinked, with_body, with_entry, with_header, without_entry}
+use Rattle.hurd_machine.proofs.Common.{AnEmpty, AttrOf, Body, BodyOf, Change, Coherent, Dir, EACCES, EBUSY, EDIED, EINVAL, EISDIR, ENOENT, ENOTDIR, ENOTEMPTY, EROFS, EXDEV, EditBody, EmptyOf, Errno, Header, LeadsUp, Linked, Listing, Name, Named, Node, Part, Plan, Planned, Seen, Sees, ServerInfo, Sound, World, active_at, answered, apply, apply_all, are_kin, body_at, both_asks, entry_of, get, header_at, home_at, info_at, is_dir, is_empty_dir, is_removed, less_entry, lists_at, may, renames_at, same_name, tree_by, unlinked, with_body, with_header, without_entry}
 use Rattle.std.proofs.lemmas.Bool.{and_parts, not-true}
 use Rattle.hurd_creds.proofs.NameLaws.{same_or_apart, apart_if_not_same, same_name-apart, edit_apart}
 use Rattle.hurd_trans_iface.specs.Nodes.{Entry}
+use Rattle.hurd_trans_iface.specs.Answers.{is_one}
 use Rattle.hurd_trans_iface.proofs.Goods.{good}
 use Rattle.hurd_machine.specs.declared.call.Reply.TheVariants.{Done}
-use Rattle.hurd_nodes.specs.Shown.{rename_by}
-use Rattle.hurd_machine.specs.Change.{settle}
+use Rattle.hurd_nodes.specs.Shown.{rename_by, rename_edits_at}
 use Rattle.hurd_machine.specs.World.{nodes_of}
 use Rattle.hurd_machine.proofs.Nodes.{header_in, body_in, node_of_header, edit_keeps, edit_reads, header-with_header, header-with_body, body-with_header, body-with_body}
 use Rattle.hurd_machine.proofs.Views.{Agree, header_same, home_same, active_same, body_same}
@@ -23,17 +23,15 @@ use Rattle.hurd_machine.proofs.Removals.{MayRemove, unlinking, distinct_at, left
 use Rattle.hurd_machine.proofs.Renames.{MayGo, may_go, going, taken_none, taken_other, going_piece}
 use Rattle.hurd_machine.proofs.Asks.{IsPlain, info_alike, is_root_same, on_ok, given_ok, first_ok, on_same, given_same, first_same, on_plain, given_plain, first_plain, ok_plain, answered_same, answered_plain, done_plain}
 use Rattle.hurd_machine.proofs.CallLaws.{CallLaws, answered_piece}
-use Rattle.hurd_core.specs.Core as core
-use Rattle.hurd_core.specs.Core.{Does}
-use Rattle.hurd_core.proofs.PlanLaws.{asked-done, asked-lacks}
+use Rattle.hurd_core.specs.Core.{Does, settled_edits}
+use Rattle.hurd_core.proofs.PlanLaws.{does-planned, planned-then}
 use Rattle.hurd_dirs.specs.declared.rename.Renaming.{Renaming}
 use Rattle.hurd_dirs.specs.Entry.{name_asks, may_change, may_take}
 use Rattle.hurd_dirs.specs.Remove.{is_empty_at}
-use Rattle.hurd_dirs.specs.Rename.{parent_in, is_inside, trees_ask, leaves_asks, gives_way, old_asks, rename_asks, is_there, moves, renames, plan_rename, touches_rename}
+use Rattle.hurd_dirs.specs.Rename.{parent_in, is_inside, trees_ask, leaves_asks, gives_way, old_asks, rename_asks, moves, renames, plan_rename, touches_rename}
 use Rattle.hurd_dirs.proofs.EntryLaws.{IsOpenTree, open_tree, dir_kind, name_plain, named_seen, entries_seen, child_seen, child_empty}
 use Rattle.hurd_machine.proofs.BothLaws.{AreNamed, are_named, both_same, both_plain}
 use Rattle.hurd_dirs.proofs.RemoveLaws.{kin_itself, empty_none, empty_by, removable}
-use Rattle.hurd_dirs.proofs.OrderLaws.{head_turned, replaced_turned}
 use Rattle.hurd_dirs.proofs.ClimbLaws.{inside_same, inside_around, inside_fewer}
 use Rattle.hurd_machine.proofs.Piece.{Stands, Piece, Whole, stands, whole_none, piece_then, settled}
 
@@ -115,20 +113,21 @@ asked_all w t p q name new P each r is =
     subst P same (each a.0.0 a.0.1 l.0 (record { named = are_named w t p q a.0 a.1; trees = are_trees w a.0.0 a.0.1 d.0 d.1; leaving = leaves w name a.0.0 a.0.1 l.0 l.1; old = o.1 }))
 
 -- what holds of each list of changes that it may make
-by_old : (w : World) (b : Named) (l : Name × Header) (r : Renaming) (name new : List ℕ) (P : List Change → Type 0) → r.node ≡ l.0 → old_asks w b l r.old ≡ Ok tt → (is_there r.node r.old ≡ true → P []) → (r.old ≡ None → P (moves name new r))
-    → ((m : Name) → r.old ≡ Some m → m ≢ r.node → Way w b.right.node m → P (EditBody r.to (without_entry new) ∷ EditHeader m unlinked ∷ moves name new r)) → P (renames name new r r.old)
-by_old w b l r name new P node asks nothing none some = go r.old refl
+by_old : (w : World) (a b : Named) (l : Name × Header) (name new : List ℕ) (P : List Change → Type 0) → let r : Renaming = renaming w new a b l in
+    old_asks w b l r.old ≡ Ok tt → (is_one r.node r.old ≡ true → P []) → (r.old ≡ None → P (moves name new r None))
+    → ((m : Name) → r.old ≡ Some m → r.node ≢ m → Way w b.right.node m → P (moves name new r (Some m))) → P (renames name new r r.old)
+by_old w a b l name new P asks nothing none some = go r.old refl asks
   where
-    by : (m : Name) → r.old ≡ Some m → (s : Bool) → same_name m r.node ≡ s → P (if s then [] else EditBody r.to (without_entry new) ∷ EditHeader m unlinked ∷ moves name new r)
-    by m e true es = nothing (ap (is_there r.node) e ∙ es)
-    by m e false es =
-        let other : same_name m l.0 ≡ false = ap (same_name m) (sym node) ∙ es in
-        let gives : gives_way w b l.1 m ≡ Ok tt = ap (λ s. if s then Ok tt else gives_way w b l.1 m) (sym other) ∙ ap (old_asks w b l) (sym e) ∙ asks in
-        some m e (apart_if_not_same m r.node es) (way w b l.1 m tt gives)
+    r : Renaming
+    r = renaming w new a b l
 
-    go : (o : Option Name) → r.old ≡ o → P (renames name new r o)
-    go None e = none e
-    go (Some m) e = by m e (same_name m r.node) refl
+    by : (m : Name) → r.old ≡ Some m → (s : Bool) → same_name r.node m ≡ s → (if s then Ok tt else gives_way w b l.1 m) ≡ Ok tt → P (if s then [] else moves name new r (Some m))
+    by m e true es asks = nothing (ap (is_one r.node) e ∙ es)
+    by m e false es asks = some m e (apart_if_not_same r.node m es) (way w b l.1 m tt asks)
+
+    go : (o : Option Name) → r.old ≡ o → old_asks w b l o ≡ Ok tt → P (renames name new r o)
+    go None e asks = none e
+    go (Some m) e asks = by m e (same_name r.node m) refl asks
 
 -- what gives way is unlinked first, and nothing else of the world goes with it
 
@@ -209,7 +208,7 @@ module _ (w : World) (t p q : ℕ) (name new : List ℕ) (a b : Named) (l : Name
     goes absent = let z = target in may_go w d name n e new k z.0 f.leaving.entry f.leaving.is_header z.1 f.trees.kin absent leads (λ dir. inside_around w n e (not_inside dir) leads)
 
     -- where something does that gives way
-    module _ (m : Name) (old : entry_of new (body_at w e) ≡ Some m) (other : m ≢ n) (gives : Way w e m) where
+    module _ (m : Name) (old : entry_of new (body_at w e) ≡ Some m) (other : n ≢ m) (gives : Way w e m) where
       old_listed : lists_at m (body_at w e) ≡ true
       old_listed = entry_lists new (body_at w e) m old
 
@@ -234,14 +233,14 @@ module _ (w : World) (t p q : ℕ) (name new : List ℕ) (a b : Named) (l : Name
 
       left_entry : entry_of name (body_at left d) ≡ Some n
       left_entry = elim (same_or_apart d e) [
-        | inl same ↦ rw same (ap (entry_of name) (left_here w e new m) ∙ taken_other name new n m (λ z. other (sym z)) (body_at w e) (rw same at f.leaving.entry) old)
+        | inl same ↦ rw same (ap (entry_of name) (left_here w e new m) ∙ taken_other name new n m other (body_at w e) (rw same at f.leaving.entry) old)
         | inr out ↦ ap (entry_of name) (left_apart w e new m d out) ∙ f.leaving.entry
       ]
 
       left_goes : MayGo left d name n e new
       left_goes =
           let z = target in
-          may_go left d name n e new k (less_entry new z.0) left_entry (left_header w e new m n (λ same. other (sym same)) ∙ f.leaving.is_header)
+          may_go left d name n e new k (less_entry new z.0) left_entry (left_header w e new m n other ∙ f.leaving.is_header)
           (left_here w e new m ∙ ap (option_map (without_entry new)) z.1) f.trees.kin
           (ap (entry_of new) (left_here w e new m) ∙ taken_none new (body_at w e) (distinct_at w c e)) left_leads
           (λ dir. inside_around left n e (inside_fewer w left (left_parent w e new m) n e (not_inside dir)) left_leads)
@@ -303,7 +302,7 @@ module _ {S : ℕ → Bool} {v w : World} (agree : Agree S v w) (c : Coherent v)
       where
         by : (o : Option Name) → entry_of new (body_at v b.right.node) ≡ o → old_asks w b l o ≡ old_asks v b l o
         by None e = refl
-        by (Some m) e = ap (λ r. if same_name m l.0 then Ok tt else r) (way_same l.1 m e)
+        by (Some m) e = ap (λ r. if same_name l.0 m then Ok tt else r) (way_same l.1 m e)
 
 module _ (t p q : ℕ) (name new : List ℕ) where
   rename_same : {S : ℕ → Bool} {v w : World} → Agree S v w → Coherent v → S t ≡ true → rename_asks w t p name q new ≡ rename_asks v t p name q new
@@ -321,7 +320,7 @@ module _ (t p q : ℕ) (name new : List ℕ) where
 
   old_plain : (w : World) (b : Named) (l : Name × Header) (o : Option Name) → IsPlain (old_asks w b l o)
   old_plain w b l None = ok_plain tt
-  old_plain w b l (Some m) = by (same_name m l.0)
+  old_plain w b l (Some m) = by (same_name l.0 m)
     where
       by : (s : Bool) → IsPlain (if s then Ok tt else gives_way w b l.1 m)
       by true = ok_plain tt
@@ -340,10 +339,10 @@ module _ (t p q : ℕ) (name new : List ℕ) where
       c = s.coherent
 
       each : (a b : Named) (l : Name × Header) → Asked w t p q name new a b l → let r : Renaming = renaming w new a b l in Whole t (Full w t (touched w r)) w w (renames name new r r.old)
-      each a b l f = by_old w b l r name new (Whole t T w w) refl f.old (λ there. whole_none s) (λ none. settled goings (tt, (tt, (tt, tt))) (stands s) (onward (stands s) (goes w t p q name new a b l f c s.linked none) (λ h at. at))) (λ m old other gives.
+      each a b l f = by_old w a b l name new (Whole t T w w) f.old (λ there. whole_none s) (λ none. settled goings (tt, (tt, (tt, tt))) (stands s) (onward (stands s) (goes w t p q name new a b l f c s.linked none) (λ h at. at))) (λ m old other gives.
           settled (unlinking r.to new m ++ goings) (tt, (tt, (tt, (tt, (tt, tt))))) (stands s)
           (piece_then (unlinking r.to new m) goings (tt, (tt, tt)) (stands s) (unlinking_piece r.to new m good (stands s) (removes w t p q name new a b l f c s.linked m old other gives) body empty (inl (inr (inr (inr (m, old, inl refl))))) (recounts_unlinked {T = T} w m (λ x on. inl (inr (inr (inr (m, old, inr on)))))) (λ S ours. (to S ours, replaced S ours m old)))
-          (λ d. onward d (left_goes w t p q name new a b l f c s.linked m old other gives) (λ h at. sym (left_header w r.to new m r.node (λ same. other (sym same))) ∙ at))))
+          (λ d. onward d (left_goes w t p q name new a b l f c s.linked m old other gives) (λ h at. sym (left_header w r.to new m r.node other) ∙ at))))
         where
           r : Renaming
           r = renaming w new a b l
@@ -385,7 +384,7 @@ module _ (t p q : ℕ) (name new : List ℕ) where
   -- the core does what is asked
 
   abbrev IsDone : World → Renaming → Type 0
-  IsDone w r = (renames_at w r.from name r.to ≡ Ok tt) × (apply_all (core.renaming w r.from name r.to new) w ≡ apply_all (renames name new r r.old) w)
+  IsDone w r = (renames_at w r.from name r.to ≡ Ok tt) × (settled_edits (rename_edits_at r.from name r.to new (nodes_of w)) ≡ renames name new r r.old)
 
   module _ (w : World) (a b : Named) (l : Name × Header) (f : Asked w t p q name new a b l) where
     abbrev r : Renaming
@@ -409,31 +408,22 @@ module _ (t p q : ℕ) (name new : List ℕ) where
             rw (one, two, f.trees.from.dir, et, f.trees.to.dir, en) refl
         go _ _ _ eh et eu en = absurd (cc)
 
-    abbrev with_nodes : NodeMap → World
-    with_nodes m = settle (record w { nodes = m })
-
     -- all edits are of the directory's server, which makes all of them
-    done_as_asked : is_there r.node r.old ≡ false → IsDone w r
+    done_as_asked : is_one r.node r.old ≡ false → IsDone w r
     done_as_asked other = (
       may_rename,
-      by_old w b l r name new (λ cs. apply_all (core.renaming w r.from name r.to new) w ≡ apply_all cs w) refl f.old (λ there. absurd (true≢false (sym there ∙ other)))
-          (λ none. rw (f.leaving.entry, none, own, to, f.leaving.kin) (ap with_nodes (head_turned (edit r.from (with_body (without_entry name)) w.nodes) r.node r.to (moved_to r.to) (with_entry new r.node))))
+      by_old w a b l name new (λ cs. settled_edits (rename_edits_at r.from name r.to new (nodes_of w)) ≡ cs) f.old (λ there. absurd (true≢false (sym there ∙ other)))
+          (λ none. rw (f.leaving.entry, none, own, to, f.leaving.kin) refl)
           (λ m some apart gives.
           let kin : are_kin (home_at w r.from) (home_at w m) ≡ true = ap (λ z. are_kin z (home_at w m)) f.trees.kin ∙ gives.kin in
-          rw (f.leaving.entry, some, same_name-apart r.node m (λ e. apart (sym e)), own, to, f.leaving.kin, kin) (ap with_nodes (replaced_turned w.nodes r.from name r.node r.to new m))),
+          rw (f.leaving.entry, some, same_name-apart r.node m apart, own, to, f.leaving.kin, kin) refl),
     )
 
-  is_done : (w : World) (r : Renaming) → rename_asks w t p name q new ≡ Ok r → is_there r.node r.old ≡ false → IsDone w r
-  is_done w = asked_all w t p q name new (λ r. is_there r.node r.old ≡ false → IsDone w r) (done_as_asked w)
-
-  module _ (w : World) (r : Renaming) (is : rename_asks w t p name q new ≡ Ok r) where
-    abbrev done : Renaming → Plan
-    done r = record { reply = Done; changes = renames name new r r.old }
-
-    pub rename-goes : is_there r.node r.old ≡ false → (x : Result (Unit {0}) Errno) (y : World) → Does w (renames_at w r.from name r.to) (λ u. core.renaming w r.from name r.to new) (λ u. tt {0}) x y
-        → Planned w (plan_rename w t p name q new) (λ (u : Unit {0}). Done) x y
-    rename-goes other (Ok u) y d = asked-done w (rename_asks w t p name q new) done (λ (u : Unit {0}). Done) r u y is refl (d.3 ∙ (is_done w r is other).1)
-    rename-goes other (Err e) y d = elim d.1 [
-      | inl refused ↦ let allowed = (is_done w r is other).0 in absurd (cc (refused, allowed))
-      | inr lacks ↦ asked-lacks w (rename_asks w t p name q new) done (λ (u : Unit {0}). Done) r e y is refl d.0 lacks.0
-    ]
+  pub rename-goes : (w : World) (r : Renaming) → rename_asks w t p name q new ≡ Ok r → is_one r.node r.old ≡ false → (x : Result (Unit {0}) Errno) (y : World)
+      → Does w (renames_at w r.from name r.to) (λ u. settled_edits (rename_edits_at r.from name r.to new (nodes_of w))) (λ u. tt {0}) x y → Planned w (plan_rename w t p name q new) (λ (u : Unit {0}). Done) x y
+  unfolding answered
+  rename-goes w r is other x y d =
+      let done = asked_all w t p q name new (λ r. is_one r.node r.old ≡ false → IsDone w r) (done_as_asked w) r is other in
+      let plan : Renaming → Plan = λ r. record { reply = Done; changes = renames name new r r.old } in
+      let planned = does-planned w (renames_at w r.from name r.to) _ _ (λ u. plan r) (λ (u : Unit {0}). Done) x y (λ u. (refl, sym done.1)) (λ u. refl) d in
+      planned-then w (rename_asks w t p name q new) plan (λ (u : Unit {0}). Done) r x y is (rw done.0 at planned)

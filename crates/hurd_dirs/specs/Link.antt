@@ -1,10 +1,10 @@
 -- A second name for a file.
-use Rattle.std.specs.Prelude.{◌≡◌, ◌⊎◌, ℕ, List, [], ◌∷◌, Result, Ok}
+use Rattle.std.specs.Prelude.{◌≡◌, ◌⊎◌, ℕ, List, Result, Ok}
 use Rattle.hurd_creds.specs.declared.errno.Errno.{Errno}
-use Rattle.hurd_trans_iface.specs.Nodes.{linked, with_entry}
+use Rattle.hurd_trans_iface.specs.Answers.{link_edits}
 use Rattle.hurd_machine.specs.declared.call.Reply.TheVariants.{Done}
 use Rattle.hurd_machine.specs.World.{World, links_at}
-use Rattle.hurd_machine.specs.Change.{EditBody, EditHeader}
+use Rattle.hurd_machine.specs.Change.{changes_of}
 use Rattle.hurd_machine.specs.Plan.{Plan, first, answered}
 use Rattle.hurd_machine.specs.Handle.{both_asks}
 use Rattle.hurd_machine.specs.Sight.{Part, AttrOf, EmptyOf, BodyOf}
@@ -22,7 +22,7 @@ link_asks w t p name q =
 -- it has an entry more, and a link more
 abbrev pub link : World → List ℕ → FileToName → Plan
 link w name n =
-    answered (links_at w n.dir name n.file) (λ u. record { reply = Done; changes = EditBody n.dir (with_entry name n.file) ∷ EditHeader n.file linked ∷ [] })
+    answered (links_at w n.dir name n.file) (λ u. record { reply = Done; changes = changes_of (link_edits n.dir name n.file) })
 
 -- dir_link: another name for a file, in a directory of its server
 abbrev pub plan_link : World → ℕ → ℕ → List ℕ → ℕ → Plan

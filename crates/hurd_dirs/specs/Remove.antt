@@ -1,17 +1,17 @@
 -- Taking entries out of directories.
-use Rattle.std.specs.Prelude.{◌≡◌, ◌⊎◌, ℕ, not, Bool, false, List, [], ◌∷◌, Option, Some, None, is_some, Result, Ok, Err}
+use Rattle.std.specs.Prelude.{◌≡◌, ◌⊎◌, ℕ, not, Bool, false, List, Option, Some, None, is_some, Result, Ok, Err}
 use Rattle.hurd_creds.specs.declared.name.Name.{Name}
 use Rattle.hurd_creds.specs.declared.errno.Errno.{Errno}
 use Rattle.hurd_creds.specs.declared.errno.Errno.TheVariants.{EACCES, EBUSY, EDIED, EISDIR, ENOENT, ENOTDIR, ENOTEMPTY}
-use Rattle.hurd_trans_iface.specs.Nodes.{Header, Body, is_dir, is_empty_dir, unlinked, without_entry}
-use Rattle.hurd_trans_iface.specs.Answers.{entry_of}
+use Rattle.hurd_trans_iface.specs.Nodes.{Header, Body, is_dir, is_empty_dir}
+use Rattle.hurd_trans_iface.specs.Answers.{entry_of, unlink_edits}
 use Rattle.hurd_nodes.specs.Shown.{are_kin}
 use Rattle.hurd_machine.specs.declared.call.Reply.TheVariants.{Done}
 use Rattle.hurd_machine.specs.World.{World, header_at, body_at, words_at, home_at, active_at}
-use Rattle.hurd_machine.specs.Change.{EditBody, EditHeader, Settle}
 use Rattle.hurd_machine.specs.Plan.{Plan, on, given, first, answered}
 use Rattle.hurd_machine.specs.Sight.{Part, AttrOf, EmptyOf, BodyOf}
 use Rattle.hurd_machine.specs.Touched.{OnLinks, asked_parts}
+use Rattle.hurd_core.specs.Core.{settled_edits}
 use Rattle.hurd_core.specs.PortNode.{header_with}
 use Rattle.hurd_dirs.specs.declared.remove.EntryNode.{EntryNode}
 use Rattle.hurd_dirs.specs.Entry.{entry_asks, may_take}
@@ -51,7 +51,7 @@ taking_asks w t p name =
 
 -- the entry goes; what it named has one link less, or no parent; and what nothing names then goes
 abbrev pub removing : List ℕ → Entered → Plan
-removing name x = record { reply = Done; changes = EditBody x.dir (without_entry name) ∷ EditHeader x.node unlinked ∷ Settle ∷ [] }
+removing name x = record { reply = Done; changes = settled_edits (unlink_edits x.dir name (Some x.node)) }
 
 -- the entries of the directory, whether it is empty, the links or the parent of what is removed, and where it is a file's last, the total
 abbrev pub OnEntry : World → Entered → Part → Type 0

@@ -1,20 +1,21 @@
 -- An entry that goes to another directory, or gets another name.
-use Rattle.std.specs.Prelude.{◌≡◌, ◌⊎◌, ℕ, zero, suc, ◌&&◌, ◌||◌, not, Bool, true, false, List, [], ◌∷◌, Option, Some, None, is_some, if◌then◌else◌, Result, Ok, Err}
+use Rattle.std.specs.Prelude.{◌≡◌, ◌⊎◌, ℕ, zero, suc, ◌&&◌, ◌||◌, not, Bool, true, false, List, [], Option, Some, None, is_some, if◌then◌else◌, Result, Ok, Err}
 use Rattle.hurd_creds.specs.declared.name.Name.{Name}
 use Rattle.hurd_creds.specs.declared.attrs.Attrs.{Attrs}
 use Rattle.hurd_creds.specs.declared.errno.Errno.{Errno}
 use Rattle.hurd_creds.specs.declared.errno.Errno.TheVariants.{EACCES, EBUSY, EDIED, EINVAL, EISDIR, ENOENT, ENOTDIR, ENOTEMPTY, EROFS, EXDEV}
 use Rattle.hurd_creds.specs.Names.{same_name}
-use Rattle.hurd_trans_iface.specs.Nodes.{Header, is_dir, unlinked, moved_to, with_entry, without_entry}
-use Rattle.hurd_trans_iface.specs.Answers.{entry_of}
+use Rattle.hurd_trans_iface.specs.Nodes.{Header, is_dir}
+use Rattle.hurd_trans_iface.specs.Answers.{entry_of, is_one, move_edits}
 use Rattle.hurd_nodes.specs.Shown.{are_kin, tree_by}
 use Rattle.hurd_machine.specs.declared.call.Reply.TheVariants.{Done}
 use Rattle.hurd_machine.specs.World.{World, header_at, body_at, words_at, home_at, active_at, info_at, is_removed}
-use Rattle.hurd_machine.specs.Change.{Change, EditHeader, EditBody, Settle}
+use Rattle.hurd_machine.specs.Change.{Change}
 use Rattle.hurd_machine.specs.Plan.{Plan, on, given, first, answered}
 use Rattle.hurd_machine.specs.Handle.{Named, both_asks}
 use Rattle.hurd_machine.specs.Sight.{Part, AttrOf, EmptyOf, BodyOf}
 use Rattle.hurd_machine.specs.Touched.{OnLinks, asked_parts}
+use Rattle.hurd_core.specs.Core.{settled_edits}
 use Rattle.hurd_core.specs.PortNode.{header_with}
 use Rattle.hurd_dirs.specs.declared.rename.Renaming.{Renaming}
 use Rattle.hurd_dirs.specs.Entry.{name_asks, may_change, may_take}
@@ -72,7 +73,7 @@ gives_way w b k m =
 -- nothing need give way to the node n where nothing stands there, or n itself does
 abbrev pub old_asks : World → Named → Name × Header → Option Name → Result (Unit {0}) Errno
 old_asks w b l None = Ok tt
-old_asks w b l (Some m) = if same_name m l.0 then Ok tt else gives_way w b l.1 m
+old_asks w b l (Some m) = if same_name l.0 m then Ok tt else gives_way w b l.1 m
 
 -- what goes, as the code has it, with the words that are stored with the node in a world
 abbrev pub leaving_of : World → Name × Attrs → Name × Header
@@ -94,19 +95,13 @@ rename_asks w t p name q new =
     first (old_asks w a.1 l old) (λ o.
     Ok (record { from = a.0.right.node; to = a.1.right.node; node = l.0; old = old })))))))
 
--- whether the node itself stands under the new name
-abbrev pub is_there : Name → Option Name → Bool
-is_there n None = false
-is_there n (Some m) = same_name m n
+-- what stands under the new name is unlinked, the old entry goes, a directory gets its new parent, and the new entry comes last
+abbrev pub moves : List ℕ → List ℕ → Renaming → Option Name → List Change
+moves name new r old = settled_edits (move_edits r.from name r.to new r.node old)
 
--- the entry goes, the node gets its new parent if it is a directory, and the new entry comes last
-abbrev pub moves : List ℕ → List ℕ → Renaming → List Change
-moves name new r = EditBody r.from (without_entry name) ∷ EditHeader r.node (moved_to r.to) ∷ EditBody r.to (with_entry new r.node) ∷ Settle ∷ []
-
--- first what the new name names is unlinked; where that is the node itself, nothing changes
+-- where the node itself stands there, nothing changes
 abbrev pub renames : List ℕ → List ℕ → Renaming → Option Name → List Change
-renames name new r None = moves name new r
-renames name new r (Some m) = if same_name m r.node then [] else EditBody r.to (without_entry new) ∷ EditHeader m unlinked ∷ moves name new r
+renames name new r old = if is_one r.node old then [] else moves name new r old
 
 -- dir_rename: an entry goes to another name, in this directory or another
 abbrev pub plan_rename : World → ℕ → ℕ → List ℕ → ℕ → List ℕ → Plan

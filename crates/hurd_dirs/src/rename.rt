@@ -1,11 +1,12 @@
 //! Entries that go to another directory, or get another name.
 ghost use Rattle.std.specs.Prelude.{◌≡◌};
+ghost use Rattle.hurd_trans_iface.specs.Answers.{is_one};
 ghost use Rattle.hurd_nodes.specs.Shown.{header_in};
 ghost use Rattle.hurd_machine.specs.Plan.{Planned};
 ghost use Rattle.hurd_machine.specs.declared.call.Reply.TheVariants as reply;
 ghost use Rattle.hurd_core.specs.Core.{world_of};
 ghost use Rattle.hurd_core.specs.PortNode.{named_of};
-ghost use Rattle.hurd_dirs.specs.Rename.{is_inside, trees_ask, leaves_asks, leaving, leaving_of, gives_way, old_asks, rename_asks, is_there, plan_rename};
+ghost use Rattle.hurd_dirs.specs.Rename.{is_inside, trees_ask, leaves_asks, leaving, leaving_of, gives_way, old_asks, rename_asks, plan_rename};
 
 use crate::entry::{may_change, may_take, name_asked};
 use hurd_core::{Core, PortNode};
@@ -161,7 +162,7 @@ fn old_asked<S: Server>(
     let Some(old) = old else {
         return Ok(());
     };
-    if old == node {
+    if node == old {
         return Ok(());
     }
     gives_way(core, to, attrs, old)
@@ -199,10 +200,10 @@ fn rename_asked<S: Server>(
 
 /// Whether the node itself stands under the new name.
 fn is_there(node: NodeName, old: Option<NodeName>) -> bool
-    ensures { result ≡ is_there node old }
+    ensures { result ≡ is_one node old }
 {
     match old {
-        Some(old) => old == node,
+        Some(old) => node == old,
         None => false,
     }
 }

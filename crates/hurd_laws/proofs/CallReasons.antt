@@ -1,20 +1,20 @@
 -- Each change of a node in a call of S has its reason, and the changes settle at their end alone, or not at all: a lemma for each call.
-use Rattle.std.proofs.Common.{◌≡◌, ◌∙◌, ◌||◌, not, if◌then◌else◌, ℕ, ℤ, Bool, true, false, true≢false, List, [], ◌∷◌, ◌++◌, Option, Some, None, refl, sym, subst, inl, inr}
+use Rattle.std.proofs.Common.{◌≡◌, ◌∙◌, ◌||◌, not, if◌then◌else◌, ℕ, ℤ, Bool, true, false, true≢false, List, [], ◌∷◌, ◌++◌, Option, Some, None, refl, ap, sym, subst, inl, inr}
 use Rattle.std.specs.Prelude.{Result, Ok, Err, is_some}
 use Rattle.hurd_creds.specs.TransBits.{ORPHAN}
 use Rattle.hurd_creds.specs.Access.{owns}
 use Rattle.hurd_creds.specs.declared.mode.Mode.{Mode}
 use Rattle.hurd_creds.specs.declared.open_flags.OpenFlags.{OpenFlags}
 use Rattle.hurd_creds.specs.declared.trans_flags.GoawayFlags.{GoawayFlags}
-use Rattle.hurd_trans_iface.specs.Nodes.{unlinked, with_passive, without_entry}
-use Rattle.hurd_trans_iface.specs.Answers.{entering}
+use Rattle.hurd_trans_iface.specs.Nodes.{with_passive}
+use Rattle.hurd_trans_iface.specs.Answers.{entering, is_one}
 use Rattle.hurd_trans_iface.specs.Behaviour.{Did, edit_bytes, edit_size, edits_of}
 use Rattle.hurd_trans_iface.specs.Meaning.{keeps_tree, size_of}
 use Rattle.hurd_nodes.specs.Shown.{own_nodes, sizing, sizing_unless, takes_options}
 use Rattle.hurd_ports.specs.Tables.{fresh}
 use Rattle.hurd_ports.specs.declared.table.PendingStart.{PendingStart}
 use Rattle.hurd_ports.specs.declared.table.Right.TheVariants.{Control, Start}
-use Rattle.hurd_machine.proofs.Common.{Change, Coherent, DropServer, EditBody, EditHeader, Errno, Holds, IdSets, IsAmong, Meaning, Name, Named, Plan, READ, SET, ServerInfo, Settle, Task, Unseat, WRITE, World, active_at, answered, asks_trans, changes_of, open_of, ports_of, same_name, server_at}
+use Rattle.hurd_machine.proofs.Common.{Change, Coherent, DropServer, EditHeader, Errno, Holds, IdSets, IsAmong, Meaning, Name, Named, Plan, READ, SET, ServerInfo, Settle, Task, Unseat, WRITE, World, active_at, answered, asks_trans, changes_of, open_of, ports_of, server_at}
 use Rattle.hurd_machine.specs.declared.call.Setting.{Setting}
 use Rattle.hurd_machine.specs.declared.call.Whence.{Whence}
 use Rattle.hurd_machine.specs.Change.{letting_go, retexting}
@@ -45,7 +45,7 @@ use Rattle.hurd_dirs.specs.File.{plan_mkfile}
 use Rattle.hurd_dirs.specs.Link.{plan_link}
 use Rattle.hurd_dirs.specs.Make.{plan_mkdir}
 use Rattle.hurd_dirs.specs.Remove.{Entered, plan_rmdir, plan_unlink, removing}
-use Rattle.hurd_dirs.specs.Rename.{moves, plan_rename, renames}
+use Rattle.hurd_dirs.specs.Rename.{moves, plan_rename}
 use Rattle.hurd_laws.specs.Integrity.{BySeat, Drained, Enters, HasOpen, MaySeat, MaySize, Named as GetsName, OnOwn, Owns, RootOf, Rules, SentAway, Started, Written}
 use Rattle.hurd_laws.proofs.Authority.{chmod_owns, giver_owns, has_open, read_drains, set_size_open}
 use Rattle.hurd_laws.proofs.MayDirs.{Removes, link_names, mkdir_enters, mkfile_enters, rename_moves, rmdir_removes, takes_node, unlink_removes}
@@ -296,7 +296,7 @@ link_reasons t p name q S w co ours = reasoned _ _ (λ a is.
 pub rename_reasons : (t p : ℕ) (name : List ℕ) (q : ℕ) (new : List ℕ) → HasReasons t (λ w. plan_rename w t p name q new)
 rename_reasons t p name q new S w co ours = reasoned _ _ (λ r is.
     let by = rename_moves t ours p name q new r.from r.to r.node r.old is in
-    let moved : Reasons true S w (moves name new r) = cons (take_by name r.node by.takes) (cons (move_by (takes_node by.takes) r.to) (cons (enter_by by.comes new r.node) settling)) in
-    by_option_is (λ o. Reasons true S w (renames name new r o)) r.old (λ e. moved)
-    (λ m e. by_bool_is (λ b. Reasons true S w (if b then [] else EditBody r.to (without_entry new) ∷ EditHeader m unlinked ∷ moves name new r)) (same_name m r.node) (λ same. none)
-    (λ apart. cons (take_by new m (by.gives m e apart)) (cons (unlink_by (takes_node (by.gives m e apart))) moved))))
+    let goes : Reasons true S w (moves name new r None) = cons (take_by name r.node by.takes) (cons (move_by (takes_node by.takes) r.to) (cons (enter_by by.comes new r.node) settling)) in
+    by_bool_is (λ b. Reasons true S w (if b then [] else moves name new r r.old)) (is_one r.node r.old) (λ there. none) (λ other.
+    by_option_is (λ o. Reasons true S w (moves name new r o)) r.old (λ e. goes) (λ m e.
+    let taken = by.gives m e (ap (is_one r.node) (sym e) ∙ other) in cons (take_by new m taken) (cons (unlink_by (takes_node taken)) goes))))

@@ -1,9 +1,10 @@
 -- What calls on entries leave where things have other names.
-use Rattle.std.proofs.Common.{◌≡◌, ◌++◌, ℕ, Bool, true, false, if◌then◌else◌, List, [], ◌∷◌, Option, Some, None, map, refl, sym, ap, subst}
+use Rattle.std.proofs.Common.{◌≡◌, ℕ, Bool, true, false, if◌then◌else◌, List, [], ◌∷◌, Option, Some, None, map, refl, sym, ap, subst}
 use Rattle.std.specs.Option.{option_map}
 use Rattle.std.specs.Str.{bytes_eq}
-use Rattle.hurd_machine.proofs.Common.{Body, Change, Content, EditBody, EditHeader, Header, Listing, Name, Settle, World, is_dir, same_name}
+use Rattle.hurd_machine.proofs.Common.{Body, Change, Content, Header, Listing, Name, World, is_dir}
 use Rattle.hurd_trans_iface.specs.Nodes.{Entry, less_entry, linked, moved_to, unlinked, with_entry, without_entry}
+use Rattle.hurd_trans_iface.specs.Answers.{is_one}
 use Rattle.hurd_machine.specs.Renamed.{OtherNames, body_renamed, entry_renamed, header_renamed, renamed}
 use Rattle.hurd_machine.proofs.RenamedAsks.{links_at-renamed}
 use Rattle.hurd_machine.proofs.RenamedMaps.{same_name-renamed}
@@ -49,29 +50,29 @@ module _ (f : OtherNames) where
 
   -- rename
 
-  moves-left : (name new : List ℕ) (r : Move) → Alike f (moves name new r) (moves name new (move_renamed f r))
-  moves-left name new r = cons f (edits_body f r.from (without_entry name) (without_entry name) (without_entry-renamed name))
+  goes-left : (name new : List ℕ) (r : Move) → Alike f (moves name new r None) (moves name new (move_renamed f r) None)
+  goes-left name new r = cons f (edits_body f r.from (without_entry name) (without_entry name) (without_entry-renamed name))
       (cons f (edits_header f r.node (moved_to r.to) (moved_to (f.to r.to)) (moved_to-renamed r.to))
       (cons f (edits_body f r.to (with_entry new r.node) (with_entry new (f.to r.node)) (with_entry-renamed f new r.node)) (just f (settles f))))
 
-  replaces-left : (name new : List ℕ) (r : Move) (m : Name) (b c : Bool) → c ≡ b
-      → Alike f (if b then [] else EditBody r.to (without_entry new) ∷ (EditHeader m unlinked ∷ moves name new r))
-      (if c then [] else EditBody (f.to r.to) (without_entry new) ∷ (EditHeader (f.to m) unlinked ∷ moves name new (move_renamed f r)))
-  replaces-left name new r m b c is = subst (λ (d : Bool). Alike f (if b then [] else here) (if d then [] else there)) (sym is) (go b)
-    where
-      here : List Change
-      here = EditBody r.to (without_entry new) ∷ (EditHeader m unlinked ∷ moves name new r)
-
-      there : List Change
-      there = EditBody (f.to r.to) (without_entry new) ∷ (EditHeader (f.to m) unlinked ∷ moves name new (move_renamed f r))
-
-      go : (b : Bool) → Alike f (if b then [] else here) (if b then [] else there)
-      go true = none f
-      go false = cons f (edits_body f r.to (without_entry new) (without_entry new) (without_entry-renamed new)) (cons f (edits_header f m unlinked unlinked (unlinked-renamed f)) (moves-left name new r))
+  moves-left : (name new : List ℕ) (r : Move) (o : Option Name) → Alike f (moves name new r o) (moves name new (move_renamed f r) (option_map f.to o))
+  moves-left name new r None = goes-left name new r
+  moves-left name new r (Some m) = cons f (edits_body f r.to (without_entry new) (without_entry new) (without_entry-renamed new))
+      (cons f (edits_header f m unlinked unlinked (unlinked-renamed f)) (goes-left name new r))
 
   renames-left : (name new : List ℕ) (r : Move) (o : Option Name) → Alike f (renames name new r o) (renames name new (move_renamed f r) (option_map f.to o))
-  renames-left name new r None = moves-left name new r
-  renames-left name new r (Some m) = replaces-left name new r m (same_name m r.node) (same_name (f.to m) (f.to r.node)) (same_name-renamed f m r.node)
+  renames-left name new r o = subst (λ (b : Bool). Alike f (renames name new r o) (if b then [] else there)) (sym (is_one-renamed o)) (go (is_one r.node o))
+    where
+      there : List Change
+      there = moves name new (move_renamed f r) (option_map f.to o)
+
+      is_one-renamed : (o : Option Name) → is_one (f.to r.node) (option_map f.to o) ≡ is_one r.node o
+      is_one-renamed None = refl
+      is_one-renamed (Some m) = same_name-renamed f r.node m
+
+      go : (b : Bool) → Alike f (if b then [] else moves name new r o) (if b then [] else there)
+      go true = none f
+      go false = moves-left name new r o
 
   module _ (w : World) (t p : ℕ) (name : List ℕ) where
     pub unlink-left : Changing f (plan_unlink w t p name) (plan_unlink (renamed f w) t p name)

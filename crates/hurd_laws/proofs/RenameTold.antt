@@ -75,7 +75,7 @@ module _ (f : OtherNames) where
 
     pub old_asks-renamed : (b : Named) (l : Name × Header) (o : Option Name) → old_asks (renamed f w) (named_renamed f b) (leaving_renamed l) (option_map f.to o) ≡ old_asks w b l o
     old_asks-renamed b l None = refl
-    old_asks-renamed b l (Some m) = ap₂ (λ (same : Bool) (way : Result (Unit {0}) Errno). if same then Ok tt else way) (same_name-renamed f m l.0) (gives_way-renamed b l.1 m)
+    old_asks-renamed b l (Some m) = ap₂ (λ (same : Bool) (way : Result (Unit {0}) Errno). if same then Ok tt else way) (same_name-renamed f l.0 m) (gives_way-renamed b l.1 m)
 
     pub rename_asks-renamed : (t p : ℕ) (name : List ℕ) (q : ℕ) (new : List ℕ) → rename_asks (renamed f w) t p name q new ≡ answer_renamed move_renamed (rename_asks w t p name q new)
     rename_asks-renamed t p name q new = first-renamed (both_renamed f) move_renamed _ _ _ (both_asks-renamed f w t p q) (λ a.

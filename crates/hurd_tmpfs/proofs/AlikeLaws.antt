@@ -81,11 +81,11 @@ unlink-else dir name n m q apart = through (body-alike dir _ m q) (edit-else n (
 -- an entry goes to another name, which none had so far
 pub move-alike : (dir : Name) (name : List ℕ) (to : Name) (new : List ℕ) (n : Name) (o : Option Name) (m : NodeMap) → o ≡ None → AllAlike m (edit_all (move_edits dir name to new n o) m)
 move-alike dir name to new n (Some r) m is = absurd (cc)
-move-alike dir name to new n None m is = λ q. through (through (body-alike dir _ m q) (body-alike to _ _ q)) (moved-alike n to _ q)
+move-alike dir name to new n None m is = λ q. through (through (body-alike dir _ m q) (moved-alike n to _ q)) (body-alike to _ _ q)
 
 -- or that another node had
 pub move-else : (dir : Name) (name : List ℕ) (to : Name) (new : List ℕ) (n : Name) (o : Option Name) (p : Name) (m : NodeMap) → o ≡ Some p → AlikeElse p m (edit_all (move_edits dir name to new n o) m)
 move-else dir name to new n None p m is = absurd (cc)
 move-else dir name to new n (Some r) p m is = λ q apart.
     let e : r ≡ p = cc in
-    through (through (through (through (body-alike dir _ m q) (body-alike to _ _ q)) (edit-else r (with_header unlinked) _ q (λ f. apart (f ∙ e)))) (body-alike to _ _ q)) (moved-alike n to _ q)
+    through (through (through (through (body-alike to _ m q) (edit-else r (with_header unlinked) _ q (λ f. apart (f ∙ e)))) (body-alike dir _ _ q)) (moved-alike n to _ q)) (body-alike to _ _ q)

@@ -141,10 +141,10 @@ rename_of keeps name kin (Some d) t =
     if not (is_dir d.header.kind) then Err ENOTDIR else if not keeps then Err EROFS
     else if kin then rename_to name d t else Err EXDEV
 
--- the entry of a node goes, so does what the new name named, and the entry under the new name comes last
+-- what the new name named is unlinked, the entry of the node goes, a directory gets its new parent, and the entry under the new name comes last
 abbrev pub move_edits : Name → List ℕ → Name → List ℕ → Name → Option Name → List Edit
 move_edits dir name to new n m =
-    OnBody dir (without_entry name) ∷ (unlink_edits to new m ++ OnBody to (with_entry new n) ∷ OnHeader n (moved_to to) ∷ [])
+    unlink_edits to new m ++ OnBody dir (without_entry name) ∷ OnHeader n (moved_to to) ∷ OnBody to (with_entry new n) ∷ []
 
 -- whether what a name names, if anything, is this node
 abbrev pub is_one : Name → Option Name → Bool
