@@ -3,6 +3,7 @@ ghost use Rattle.std.specs.Prelude.{◌<◌};
 
 use crate::work::Work;
 use hurd_creds::Bytes;
+use itoa::Buffer;
 use std::alloc::{AllocError, Global};
 
 /// The most files of a directory.
@@ -44,34 +45,58 @@ pub fn directory_of(file: usize) -> usize {
     file / DIRECTORY_SIZE
 }
 
+/// So many bytes have room for the longest path.
+const PATH_ROOM: usize = 24;
+
+/// A letter with a number behind a text.
+fn push_numbered(text: &mut Vec<u8>, letter: u8, number: usize) -> Result<(), AllocError> {
+    let mut buffer = Buffer::new();
+    text.push(letter)?;
+    text.extend_from_slice(buffer.format(number).as_bytes())
+}
+
+/// A letter with a number.
+fn numbered(alloc: Global, letter: u8, number: usize) -> Result<Bytes, AllocError> {
+    let mut text = Vec::with_capacity(alloc, PATH_ROOM)?;
+    push_numbered(&mut text, letter, number)?;
+    Ok(Bytes::new(text))
+}
+
+/// A letter with a file's number, in the file's directory.
+fn path_to(alloc: Global, letter: u8, file: usize) -> Result<Bytes, AllocError> {
+    let mut text = Vec::with_capacity(alloc, PATH_ROOM)?;
+    push_numbered(&mut text, b'd', directory_of(file))?;
+    text.push(b'/')?;
+    push_numbered(&mut text, letter, file)?;
+    Ok(Bytes::new(text))
+}
+
 /// The name of a directory.
 pub fn directory_name(alloc: Global, directory: usize) -> Result<Bytes, AllocError> {
-    Ok(Bytes::new(format!(in alloc; "d{directory}")?.into_bytes()))
+    numbered(alloc, b'd', directory)
 }
 
 /// The name of a file in its directory.
 pub fn file_name(alloc: Global, file: usize) -> Result<Bytes, AllocError> {
-    Ok(Bytes::new(format!(in alloc; "f{file}")?.into_bytes()))
+    numbered(alloc, b'f', file)
 }
 
 /// The name that a file is given in place of its own.
 pub fn new_name(alloc: Global, file: usize) -> Result<Bytes, AllocError> {
-    Ok(Bytes::new(format!(in alloc; "g{file}")?.into_bytes()))
+    numbered(alloc, b'g', file)
 }
 
 /// The name of the file beside it, for a server.
 pub fn served_name(alloc: Global, file: usize) -> Result<Bytes, AllocError> {
-    Ok(Bytes::new(format!(in alloc; "h{file}")?.into_bytes()))
+    numbered(alloc, b'h', file)
 }
 
 /// The path of a file.
 pub fn file_path(alloc: Global, file: usize) -> Result<Bytes, AllocError> {
-    let directory = directory_of(file);
-    Ok(Bytes::new(format!(in alloc; "d{directory}/f{file}")?.into_bytes()))
+    path_to(alloc, b'f', file)
 }
 
 /// The path of the file beside it, for a server.
 pub fn served_path(alloc: Global, file: usize) -> Result<Bytes, AllocError> {
-    let directory = directory_of(file);
-    Ok(Bytes::new(format!(in alloc; "d{directory}/h{file}")?.into_bytes()))
+    path_to(alloc, b'h', file)
 }

@@ -23,10 +23,16 @@ pub enum Want {
     Exec,
 }
 
-/// A node's attributes.
+/// A node's attributes. The fields of one byte stand together: so they are moved with the others, in registers.
 #[derive(Clone, Copy, Debug, PartialEq, Eq)]
 pub struct Attrs {
     pub kind: Kind,
+    /// Whether it is a directory without entries.
+    pub empty: bool,
+    /// Whether words of a passive translator are stored.
+    pub passive: bool,
+    /// Whether a translator is active.
+    pub active: bool,
     pub owner: u32,
     pub group: u32,
     pub mode: Mode,
@@ -34,12 +40,6 @@ pub struct Attrs {
     pub links: u32,
     /// In bytes.
     pub size: u64,
-    /// Whether it is a directory without entries.
-    pub empty: bool,
-    /// Whether words of a passive translator are stored.
-    pub passive: bool,
-    /// Whether a translator is active.
-    pub active: bool,
     /// The parent of a directory that is an entry.
     pub parent: Option<NodeName>,
 }
@@ -48,13 +48,13 @@ pub struct Attrs {
 #[derive(Clone, Copy, Debug, PartialEq, Eq)]
 pub struct Stat {
     pub kind: Kind,
+    pub passive: bool,
+    pub active: bool,
     pub owner: u32,
     pub group: u32,
     pub mode: Mode,
     pub links: u32,
     pub size: u64,
-    pub passive: bool,
-    pub active: bool,
 }
 
 impl Attrs {
