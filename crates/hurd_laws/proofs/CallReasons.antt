@@ -1,4 +1,4 @@
--- Each change of a node in a call of S has its reason, and the changes settle at their end alone, or not at all: a lemma for each call.
+-- Each change of a call has its reason, and they settle at their end alone, if at all: a lemma for each call.
 use Rattle.std.proofs.Common.{◌≡◌, ◌∙◌, ◌||◌, not, if◌then◌else◌, ℕ, ℤ, Bool, true, false, true≢false, List, [], ◌∷◌, ◌++◌, Option, Some, None, refl, ap, sym, subst, inl, inr}
 use Rattle.std.specs.Prelude.{Result, Ok, Err, is_some}
 use Rattle.hurd_creds.specs.TransBits.{ORPHAN}
