@@ -3,7 +3,7 @@ use Rattle.std.proofs.Common.{◌≡◌, ℕ, Bool, not, List, Some, None, Resul
 use Rattle.std.specs.Prelude.{◌&&◌}
 use Rattle.hurd_creds.specs.declared.open_flags.OpenFlags.{OpenFlags}
 use Rattle.hurd_creds.specs.declared.attrs.Kind.TheVariants.{File}
-use Rattle.hurd_creds.specs.declared.errno.Errno.TheVariants.{EACCES, EDIED, EISDIR, ENAMETOOLONG, ENOENT, ENOTDIR, EROFS, ESRCH}
+use Rattle.hurd_creds.specs.declared.errno.Errno.TheVariants.{EACCES, EDIED, EISDIR, ENOENT, ENOTDIR, EROFS, ESRCH}
 use Rattle.hurd_creds.specs.Access.{IdSets}
 use Rattle.hurd_creds.specs.Bits.{WRITE, asks}
 use Rattle.hurd_ports.specs.declared.parents.Parent.{Parent}
@@ -11,16 +11,14 @@ use Rattle.hurd_machine.proofs.Common.{Errno, Name, Task, World}
 use Rattle.hurd_machine.specs.declared.call.Reply.TheVariants.{Found}
 use Rattle.hurd_machine.specs.Renamed.{OtherNames, renamed, task_renamed}
 use Rattle.hurd_machine.proofs.RenamedAsks.{makes_at-renamed}
-use Rattle.hurd_machine.proofs.RenamedHandles.{on_header-renamed, on_right-renamed}
+use Rattle.hurd_machine.proofs.RenamedHandles.{on_header-renamed}
 use Rattle.hurd_machine.proofs.RenamedNodes.{home_at-renamed}
 use Rattle.hurd_machine.proofs.RenamedPlans.{answer_renamed, answered-renamed, first-given, first-renamed, given-renamed, on-given, on-renamed}
 use Rattle.hurd_machine.proofs.RenamedServers.{is_removed-renamed, only_reads-renamed}
 use Rattle.hurd_machine.proofs.RenamedTasks.{caller-renamed}
-use Rattle.hurd_lookup.specs.Path.{names_in}
-use Rattle.hurd_lookup.specs.Lookup.{Authority, AtName, AtNode, Elsewhere, Makes, Opens, Outcome, Place, Retries, Starts, Waits, by_right, end_asks, ending_asks, finding, found_asks, lookup_told, make_asks, open_asks, whole_asks}
-use Rattle.hurd_laws.proofs.LookupRenamed.{Asked, authority_renamed, outcome_renamed, place_renamed, ways_renamed}
+use Rattle.hurd_lookup.specs.Lookup.{Authority, Makes, Opens, Outcome, Retries, Starts, ending_asks, finding, lookup_told, make_asks, open_asks, whole_asks}
+use Rattle.hurd_laws.proofs.LookupRenamed.{Asked, authority_renamed, outcome_renamed, ways_renamed}
 use Rattle.hurd_laws.proofs.CoreRenamed.{room_asks-renamed}
-use Rattle.hurd_laws.proofs.WalkRenamed.{walk-renamed}
 
 module _ (f : OtherNames) where
   -- what is told, once it is done
@@ -54,21 +52,6 @@ module _ (f : OtherNames) where
         on-given (outcome_renamed f.to) EACCES _ _ refl (λ owner.
         given-renamed (outcome_renamed f.to) ENOENT _ (ap not (is_removed-renamed f w d h)) (
         on-renamed f.to (outcome_renamed f.to) EDIED _ _ _ (home_at-renamed f w d) (λ s. refl))))))
-
-    pub end_asks-renamed : (q : Authority) (r : Asked) (place : Place)
-        → end_asks (renamed f w) (authority_renamed f.to q) r (place_renamed f.to place) ≡ answer_renamed (outcome_renamed f.to) (end_asks w q r place)
-    end_asks-renamed q r (AtNode n ways) = open_asks-renamed q.ids r n ways
-    end_asks-renamed q r (AtName d name) = make_asks-renamed q r d name
-    end_asks-renamed q r (Elsewhere kind name at) = refl
-    end_asks-renamed q r (Waits n words) = refl
-
-    -- along a path
-    pub found_asks-renamed : (t p : ℕ) (path : List ℕ) (r : Asked) → found_asks (renamed f w) t p path r ≡ answer_renamed (outcome_renamed f.to) (found_asks w t p path r)
-    found_asks-renamed t p path r =
-        on_right-renamed f w (outcome_renamed f.to) t p _ _ (λ q.
-        on_header-renamed f w (outcome_renamed f.to) EDIED q.node _ _ (λ h.
-        given-renamed (outcome_renamed f.to) ENAMETOOLONG _ refl (
-        first-renamed (place_renamed f.to) (outcome_renamed f.to) _ _ _ (walk-renamed f w (by_right q) r q.node (names_in path)) (end_asks-renamed (by_right q) r))))
 
     -- of a task that has made no more
     module _ (t : ℕ) (none : f.more t ≡ 0) where

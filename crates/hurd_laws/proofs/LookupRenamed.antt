@@ -7,7 +7,7 @@ use Rattle.hurd_ports.specs.declared.parents.Parent.{Parent}
 use Rattle.hurd_machine.specs.Renamed.{start_renamed, way_renamed}
 use Rattle.hurd_core.specs.Core.{NewNodeAt}
 use Rattle.hurd_lookup.specs.Getroot.{Entrance}
-use Rattle.hurd_lookup.specs.Lookup.{Authority, NewPort, Place, AtNode, AtName, Elsewhere, Waits, Crossed, Active, Waiting, Outcome, Opens, Makes, Retries, Starts, entry_or}
+use Rattle.hurd_lookup.specs.Lookup.{Authority, NewPort, Crossed, Active, Waiting, Outcome, Opens, Makes, Retries, Starts, entry_or}
 use Rattle.hurd_laws.proofs.KeptTypes.{Comes, Takes}
 use Rattle.hurd_lookup.specs.Resolve.{Leg, awake, leg_request}
 
@@ -40,13 +40,6 @@ module _ (f : Name → Name) where
   abbrev pub crossed_renamed : Crossed → Crossed
   crossed_renamed (Active root) = Active (f root)
   crossed_renamed (Waiting words) = Waiting words
-
-  -- what names lead to
-  abbrev pub place_renamed : Place → Place
-  place_renamed (AtNode n ways) = AtNode (f n) (ways_renamed ways)
-  place_renamed (AtName d name) = AtName (f d) name
-  place_renamed (Elsewhere kind name at) = Elsewhere kind name (option_map new_port_renamed at)
-  place_renamed (Waits n words) = Waits (f n) words
 
   -- a node that is to be made names its directory
   abbrev pub new_node_renamed : NewNodeAt → NewNodeAt

@@ -1,7 +1,7 @@
 -- Where paths lead that the core follows for itself, where things have other names.
 use Rattle.std.proofs.Common.{◌≡◌, ℕ, zero, suc, List, [], ◌∷◌, Option, Some, None, Result, Ok, Err, map, refl, sym, ap, ◌∙◌}
 use Rattle.std.specs.Option.{option_map}
-use Rattle.hurd_creds.specs.declared.errno.Errno.TheVariants.{EDIED, ENAMETOOLONG, ENOENT, ENOTDIR}
+use Rattle.hurd_creds.specs.declared.errno.Errno.TheVariants.{EDIED, ENAMETOOLONG, ENOENT}
 use Rattle.hurd_creds.specs.Access.{IdSets}
 use Rattle.hurd_machine.proofs.Common.{Errno, Name, World, header_at}
 use Rattle.hurd_machine.specs.Plan.{first}
@@ -9,12 +9,11 @@ use Rattle.hurd_machine.specs.Renamed.{OtherNames, header_renamed, renamed}
 use Rattle.hurd_machine.proofs.RenamedNodes.{header_at-renamed}
 use Rattle.hurd_machine.proofs.RenamedPlans.{answer_renamed, first-renamed, given-renamed}
 use Rattle.hurd_lookup.specs.Path.{names_in}
-use Rattle.hurd_lookup.specs.Legs.{lands}
-use Rattle.hurd_lookup.specs.Lookup.{AtName, AtNode, Elsewhere, NewPort, Place, Waits, no_ids, walk}
+use Rattle.hurd_lookup.specs.Lookup.{Makes, NewPort, Opens, Outcome, Retries, Starts, no_ids, walk}
 use Rattle.hurd_lookup.specs.Nested.{asleep}
 unfoldable use Rattle.hurd_lookup.specs.Resolve.{path_end, resolve}
 use Rattle.hurd_lookup.specs.Resolve.{Leg, awake, from_top, landed, leg_at, leg_by, leg_request, legs, most_looks, resolve_all}
-use Rattle.hurd_laws.proofs.LookupRenamed.{Asked, Landed, leg_renamed, new_port_renamed, place_renamed}
+use Rattle.hurd_laws.proofs.LookupRenamed.{Landed, leg_renamed, new_port_renamed, outcome_renamed}
 use Rattle.hurd_laws.proofs.Leading.{Leads, leads_first, leads_given, leads_on}
 use Rattle.hurd_laws.proofs.WalkRenamed.{walk-renamed}
 
@@ -27,21 +26,25 @@ module _ (f : OtherNames) where
   leg_at-renamed name None = from_top-renamed name
   leg_at-renamed name (Some e) = refl
 
-  module _ (w : World) where
-    -- a path that ends where a translator waits
-    abbrev pub asleep_at : Name → Result Landed Errno
-    asleep_at n = landed w (leg_request []) (legs 0 w no_ids) (Waits n [])
+  -- a path that ends at a node, and one that ends where a translator waits
 
+  abbrev lands_at : Name → Result Landed Errno
+  lands_at n = landed (λ l. Err EDIED) (Opens (record { node = n; ids = no_ids; parents = [] }))
+
+  abbrev asleep_at : Name → Result Landed Errno
+  asleep_at n = landed (λ l. Err EDIED) (Starts (record { node = n; words = [] }))
+
+  module _ (w : World) where
     -- for whatever is made of the end of a path
     module _ {A B : Type 0} (h : A → B) (k : Landed → Result A Errno) (l : Landed → Result B Errno)
-        (ends : (n : Name) → Leads h k l (lands (Ok n)) (lands (Ok (f.to n)))) (sleeps : (n : Name) → Leads h k l (asleep_at n) (asleep_at (f.to n))) (ids : IdSets) where
-      landed-leads : (r : Asked) (i j : Leg → Result Landed Errno) → ((leg : Leg) → Leads h k l (i leg) (j (leg_renamed f.to leg)))
-          → (place : Place) → Leads h k l (landed w r i place) (landed (renamed f w) r j (place_renamed f.to place))
+        (ends : (n : Name) → Leads h k l (lands_at n) (lands_at (f.to n))) (sleeps : (n : Name) → Leads h k l (asleep_at n) (asleep_at (f.to n))) (ids : IdSets) where
+      landed-leads : (i j : Leg → Result Landed Errno) → ((leg : Leg) → Leads h k l (i leg) (j (leg_renamed f.to leg)))
+          → (o : Outcome) → Leads h k l (landed i o) (landed j (outcome_renamed f.to o))
       unfolding first
-      landed-leads r i j alike (AtNode n ways) = leads_on h k l (header_renamed f.to) EDIED (header_at w n) _ _ (header_at-renamed f w n) (λ x. leads_given h k l ENOTDIR _ _ refl (ends n))
-      landed-leads r i j alike (AtName d name) = refl
-      landed-leads r i j alike (Elsewhere kind name at) = leads_first h k l (leg_renamed f.to) (leg_at name at) i j (leg_at-renamed name at) alike
-      landed-leads r i j alike (Waits n words) = sleeps n
+      landed-leads i j alike (Opens e) = ends e.node
+      landed-leads i j alike (Makes s m ids ways) = refl
+      landed-leads i j alike (Retries kind name at) = leads_first h k l (leg_renamed f.to) (leg_at name at) i j (leg_at-renamed name at) alike
+      landed-leads i j alike (Starts s) = sleeps s.node
 
       no_looks : (leg : Leg) → Leads h k l (legs 0 w ids leg) (legs 0 (renamed f w) ids (leg_renamed f.to leg))
       unfolding first
@@ -52,8 +55,8 @@ module _ (f : OtherNames) where
       legs-leads (suc looks) leg =
           leads_on h k l (header_renamed f.to) EDIED (header_at w leg.node) _ _ (header_at-renamed f w leg.node) (λ x.
           leads_given h k l ENAMETOOLONG _ _ refl (
-          leads_first h k l (place_renamed f.to) (walk w (leg_by ids leg) (leg_request leg.path) leg.node (names_in leg.path)) _ _
-          (walk-renamed f w (leg_by ids leg) (leg_request leg.path) leg.node (names_in leg.path)) (landed-leads (leg_request leg.path) _ _ (legs-leads looks))))
+          leads_first h k l (outcome_renamed f.to) (walk w (leg_by ids leg) (leg_request leg.path) leg.node (names_in leg.path)) _ _
+          (walk-renamed f w (leg_by ids leg) (leg_request leg.path) leg.node (names_in leg.path)) (landed-leads _ _ (legs-leads looks))))
 
       path_end-leads : (path : List ℕ) → Leads h k l (path_end w ids path) (path_end (renamed f w) ids path)
       unfolding path_end
@@ -61,7 +64,7 @@ module _ (f : OtherNames) where
 
     -- the node
 
-    awake_lands : (e : Errno) (n : Name) → Leads f.to (awake e) (awake e) (lands (Ok n)) (lands (Ok (f.to n)))
+    awake_lands : (e : Errno) (n : Name) → Leads f.to (awake e) (awake e) (lands_at n) (lands_at (f.to n))
     unfolding first
     awake_lands e n = refl
 
@@ -83,7 +86,7 @@ module _ (f : OtherNames) where
     abbrev waiting : Landed → Result (Option Name) Errno
     waiting l = Ok (asleep (Ok l))
 
-    waiting_lands : (n : Name) → Leads (option_map f.to) waiting waiting (lands (Ok n)) (lands (Ok (f.to n)))
+    waiting_lands : (n : Name) → Leads (option_map f.to) waiting waiting (lands_at n) (lands_at (f.to n))
     unfolding first
     waiting_lands n = refl
 

@@ -9,7 +9,7 @@ use Rattle.hurd_trans_iface.specs.declared.root.Crossing.TheVariants.{Link}
 use Rattle.hurd_nodes.proofs.PartLaws.{mapped-some}
 use Rattle.hurd_core.specs.PortNode.{header_with}
 use Rattle.hurd_lookup.specs.declared.request.Request.{Request}
-use Rattle.hurd_lookup.specs.Lookup.{Authority, Place, cross, crossing, enter, follow, hold_on, is_last}
+use Rattle.hurd_lookup.specs.Lookup.{Authority, Outcome, cross, crossing, enter, follow, hold_on, is_last}
 use Rattle.hurd_lookup.specs.Ends.{IsHere, text_at, text_by}
 use Rattle.hurd_lookup.specs.declared.here.Here.{Here}
 
@@ -28,10 +28,10 @@ module _ (w : World) (root : Name) (h : Header) (there : header_at w root ≡ So
   info-of = mapped-some _ (info_at w root) x (sym is)
 
   module _ (q : Authority) (r : Request) (d : Name) (names : List (List ℕ)) where
-    abbrev crossed : Option Header → Option ServerInfo → Result Place Errno
+    abbrev crossed : Option Header → Option ServerInfo → Result Outcome Errno
     crossed o s = first (on EDIED o (λ g. on EDIED s (λ i. Ok i))) (λ i. crossing w (root_of i.kind i.text).crossing q r d root i names)
 
-    abbrev by_crossing : Crossing → Result Place Errno
+    abbrev by_crossing : Crossing → Result Outcome Errno
     by_crossing y = crossing w y q r d root info-of.0 names
 
     pub served : (y : Crossing) → x.crossing ≡ y → cross w q r d root names ≡ by_crossing y
@@ -44,11 +44,11 @@ module _ (w : World) (root : Name) (h : Header) (there : header_at w root ≡ So
     cross-firm targets o firm told first_is =
         served Firm firm ∙ ap (λ (n : Option Name). hold_on w q r d n names) (sym (first_is ∙ ap (λ (ns : List Name). slice_get ns 0) (told ∙ ap targets_in info-of.1)))
 
-    pub cross-final : (a : Bool) → x.crossing ≡ Link a → true ≡ (is_last names && asks r.flags NOLINK) → cross w q r d root names ≡ enter q r d root names
-    cross-final a link final = served (Link a) link ∙ ap (λ (b : Bool). if b then enter q r d root names else follow a q r d info-of.0.text names) (sym final)
+    pub cross-final : (a : Bool) → x.crossing ≡ Link a → true ≡ (is_last names && asks r.flags NOLINK) → cross w q r d root names ≡ enter w q r d root names
+    cross-final a link final = served (Link a) link ∙ ap (λ (b : Bool). if b then enter w q r d root names else follow a q r d info-of.0.text names) (sym final)
 
     pub cross-along : (a : Bool) → x.crossing ≡ Link a → false ≡ (is_last names && asks r.flags NOLINK) → cross w q r d root names ≡ follow a q r d (text_at w root) names
     cross-along a link final =
         served (Link a) link
-        ∙ ap (λ (b : Bool). if b then enter q r d root names else follow a q r d info-of.0.text names) (sym final)
+        ∙ ap (λ (b : Bool). if b then enter w q r d root names else follow a q r d info-of.0.text names) (sym final)
         ∙ ap (λ (text : List ℕ). follow a q r d text names) (sym (ap text_by info-of.1))

@@ -14,7 +14,7 @@ use Rattle.hurd_machine.specs.Plan.{first, on}
 use Rattle.hurd_machine.proofs.Faces.{face_in, face_reads, root_told}
 use Rattle.hurd_core.specs.Branches.{branches, branches_by}
 use Rattle.hurd_lookup.specs.declared.request.Request.{Request}
-use Rattle.hurd_lookup.specs.Lookup.{Authority, Place, crossing}
+use Rattle.hurd_lookup.specs.Lookup.{Authority, Outcome, crossing}
 
 pub branches_face : (o p : Option ServerInfo) → face_in p ≡ face_in o → branches_by p ≡ branches_by o
 branches_face = face_reads branches_by (λ i. ap (λ (x : Root). branches x.crossing i.targets) (root_told i.kind i.text))
@@ -29,7 +29,7 @@ crossing_face w q r d root names k i = ap (λ (x : Root). crossing w x.crossing 
     led Firm kept = refl
     led Union kept = refl
 
-abbrev pub crossed_by : World → Authority → Request → Name → Name → List (List ℕ) → Option Header → Option ServerInfo → Result Place Errno
+abbrev pub crossed_by : World → Authority → Request → Name → Name → List (List ℕ) → Option Header → Option ServerInfo → Result Outcome Errno
 crossed_by w q r d root names o s = first (on EDIED o (λ h. on EDIED s (λ i. Ok i))) (λ i. crossing w (root_of i.kind i.text).crossing q r d root i names)
 
 pub crossed_face : (w : World) (q : Authority) (r : Request) (d root : Name) (names : List (List ℕ)) (o : Option Header) (i : ServerInfo) → crossed_by w q r d root names o (Some (faced i)) ≡ crossed_by w q r d root names o (Some i)

@@ -10,7 +10,7 @@ use Rattle.hurd_machine.proofs.CallLaws.{CallLaws, answered_piece}
 use Rattle.hurd_core.specs.Core.{room_asks}
 use Rattle.hurd_lookup.specs.Lookup.{Outcome, Opens, Makes, Retries, Starts, ending_asks, whole_asks, lookup_told, finding, finding_parts}
 use Rattle.hurd_lookup.proofs.AlikeLaws.{Alike, ok_alike, on_alike, given_alike, first_alike}
-use Rattle.hurd_lookup.proofs.WalkLaws.{Ground, no_ids_taken, seen_ground, taken_powers}
+use Rattle.hurd_lookup.proofs.WalkLaws.{Ground, seen_ground, taken_powers}
 use Rattle.hurd_lookup.proofs.BeginLaws.{Begins, held_begins, seen_begins}
 use Rattle.hurd_lookup.proofs.EndLaws.{OutcomeShown}
 use Rattle.hurd_lookup.proofs.HeldLaws.{held_ground}
@@ -56,7 +56,7 @@ module _ (t : ℕ) (flags : OpenFlags) (found : World → Result Outcome Errno) 
 
   -- as a set of tasks sees it
   seen_alike : (S : ℕ → Bool) (v w : World) → Agree S v w → S t ≡ true → Alike (Answered (Seen S v) (λ d. Sees S v (BodyOf d)) (Taken S v) v) (asked v) (asked w)
-  seen_alike S v w a ours = asked_alike (seen_ground a (Taken S v) (taken_powers S v) (no_ids_taken S v)) (seen_begins a t ours) (seen_lends a t ours)
+  seen_alike S v w a ours = asked_alike (seen_ground a (Taken S v) (taken_powers S v)) (seen_begins a t ours) (seen_lends a t ours)
 
   -- in one world, and as all do
   alone : (S : ℕ → Bool) (w : World) → S t ≡ true → Alike (Answered (Seen S w) (λ d. Sees S w (BodyOf d)) (Taken S w) w) (asked w) (asked w)

@@ -7,9 +7,9 @@ use Rattle.hurd_lookup.specs.declared.request.Request.{Request}
 use Rattle.hurd_lookup.specs.Lookup.{Outcome}
 use Rattle.hurd_lookup.specs.Getroot.{Entrance, root_request, entrance_asks, getroot_asks, plan_getroot, touches_getroot}
 use Rattle.hurd_lookup.proofs.AlikeLaws.{Alike, ok_alike, on_alike, given_alike, first_alike}
-use Rattle.hurd_lookup.proofs.WalkLaws.{Ground, WaysOn, cross_alike}
+use Rattle.hurd_lookup.proofs.WalkLaws.{Ground, WaysOn}
+use Rattle.hurd_lookup.proofs.AlongLaws.{cross_alike}
 use Rattle.hurd_lookup.proofs.BeginLaws.{Begins}
-use Rattle.hurd_lookup.proofs.EndLaws.{end_alike}
 use Rattle.hurd_lookup.proofs.FoundLaws.{FoundLaws, finding_laws}
 
 module _ (t c dir : ℕ) where
@@ -36,8 +36,7 @@ module _ (t c dir : ℕ) where
 
     pub found_alike : FoundLaws t flags found
     found_alike v w At Near Entries T g b P k =
-        first_alike _ _ _ _ _ _ (entrance_alike g b) (λ e is s.
-        first_alike _ _ _ _ _ _ (cross_alike g e.authority s.ids s.ways r e.start e.root s.start s.root []) (λ place crossed at. end_alike g e.authority s.ids s.ways r place at))
+        first_alike _ _ _ _ _ _ (entrance_alike g b) (λ e is s. cross_alike g e.authority s.ids s.ways r e.start e.root s.start s.root [])
 
     pub getroot_laws : CallLaws t (λ w. plan_getroot w t c dir flags) (λ w. touches_getroot w t c dir flags)
     getroot_laws = finding_laws t flags found found_alike

@@ -46,7 +46,6 @@ module _ (w : World) where
     pub held_ground : Ground w w (CanBeAt (nodes_of w)) Anywhere Anywhere AnyIds
     held_ground = record {
       top = inl refl;
-      none = tt;
       near = λ n at. tt;
       header = λ n near. refl;
       face = λ n near. refl;

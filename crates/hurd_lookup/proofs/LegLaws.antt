@@ -7,16 +7,16 @@ use Rattle.hurd_lookup.specs.declared.resolve.Landing.{Landing}
 use Rattle.hurd_lookup.specs.declared.resolve.Looked.{Looked}
 use Rattle.hurd_lookup.specs.declared.resolve.Looked.TheVariants.{Ends, Goes}
 use Rattle.hurd_lookup.specs.Path.{names_in, is_short}
-use Rattle.hurd_lookup.specs.Lookup.{Place, walk}
+use Rattle.hurd_lookup.specs.Lookup.{Outcome, walk}
 use Rattle.hurd_lookup.specs.Legs.{Leads}
 use Rattle.hurd_lookup.specs.Resolve.{Leg, landed, leg_asks, leg_by, leg_request, legs}
 
 module _ (w : World) (ids : IdSets) (l : Leg) (h : Header) (there : header_at w l.node ≡ Some h) (short : true ≡ is_short l.path) (r : Request) (plain : r ≡ leg_request l.path) where
-  abbrev walked : Request → Result Place Errno
+  abbrev walked : Request → Result Outcome Errno
   walked q = walk w (leg_by ids l) q l.node (names_in l.path)
 
   abbrev then_landed : Request → (Leg → Result Landing Errno) → Result Landing Errno
-  then_landed q onward = first (walked q) (landed w q onward)
+  then_landed q onward = first (walked q) (landed onward)
 
   leg_is : (onward : Leg → Result Landing Errno) → leg_asks w ids l onward ≡ then_landed r onward
   unfolding on given
@@ -27,16 +27,16 @@ module _ (w : World) (ids : IdSets) (l : Leg) (h : Header) (there : header_at w 
 
   pub leg_refused : (e : Errno) → walked r ≡ Err e → Leads w (leg_asks w ids l) (Err e)
   unfolding first
-  leg_refused e is = inl (λ onward. leg_is onward ∙ ap (λ (p : Result Place Errno). first p (landed w r onward)) is)
+  leg_refused e is = inl (λ onward. leg_is onward ∙ ap (λ (p : Result Outcome Errno). first p (landed onward)) is)
 
-  pub leg_led : (place : Place) (looked : Result Looked Errno) → walked r ≡ Ok place → Leads w (λ onward. landed w r onward place) looked → Leads w (leg_asks w ids l) looked
+  pub leg_led : (o : Outcome) (looked : Result Looked Errno) → walked r ≡ Ok o → Leads w (λ onward. landed onward o) looked → Leads w (leg_asks w ids l) looked
   unfolding first
-  leg_led place looked is leads = go looked leads
+  leg_led o looked is leads = go looked leads
     where
-      same : (onward : Leg → Result Landing Errno) → leg_asks w ids l onward ≡ landed w r onward place
-      same onward = leg_is onward ∙ ap (λ (p : Result Place Errno). first p (landed w r onward)) is
+      same : (onward : Leg → Result Landing Errno) → leg_asks w ids l onward ≡ landed onward o
+      same onward = leg_is onward ∙ ap (λ (p : Result Outcome Errno). first p (landed onward)) is
 
-      go : (looked : Result Looked Errno) → Leads w (λ onward. landed w r onward place) looked → Leads w (leg_asks w ids l) looked
+      go : (looked : Result Looked Errno) → Leads w (λ onward. landed onward o) looked → Leads w (leg_asks w ids l) looked
       go (Ok (Ends n)) ends = (λ onward. same onward ∙ ends.0 onward, ends.1)
       go (Ok (Goes m)) goes = λ onward. same onward ∙ goes onward
       go (Err e) refused = elim refused [ inl asked ↦ inl (λ onward. same onward ∙ asked onward) | inr lacks ↦ inr lacks ]

@@ -1,12 +1,13 @@
 pub mod AlikeLaws
 pub mod FaceLaws
 pub mod WalkLaws
+pub mod EndLaws
+pub mod AlongLaws
 pub mod HeldLaws
 pub mod ResolveLaws
 pub mod LegLaws
 pub mod LentLaws
 pub mod LackingLaws
-pub mod EndLaws
 pub mod MakerLaws
 pub mod OutcomeLaws
 pub mod BeginLaws
@@ -21,5 +22,4 @@ pub mod CrossLaws
 pub mod StepLaws
 pub mod DoneLaws
 pub mod SeekingLaws
-pub mod Touching
 pub mod TouchingLaws

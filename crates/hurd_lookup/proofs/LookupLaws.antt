@@ -9,8 +9,9 @@ use Rattle.hurd_lookup.specs.Lookup.{Outcome, Opens, Makes, Retries, Starts, by_
 use Rattle.hurd_lookup.specs.Seeking.{plan_lookup, seeking_asks, sooner, start_at, touches_lookup}
 use Rattle.hurd_lookup.proofs.AlikeLaws.{Alike, ok_alike, first_alike, on_alike, given_alike}
 use Rattle.hurd_lookup.proofs.BeginLaws.{Begins}
-use Rattle.hurd_lookup.proofs.WalkLaws.{Ground, walk_alike}
-use Rattle.hurd_lookup.proofs.EndLaws.{OutcomeShown, end_alike}
+use Rattle.hurd_lookup.proofs.WalkLaws.{Ground}
+use Rattle.hurd_lookup.proofs.EndLaws.{OutcomeShown}
+use Rattle.hurd_lookup.proofs.AlongLaws.{walk_alike}
 use Rattle.hurd_lookup.proofs.FoundLaws.{FoundLaws, finding_laws}
 use Rattle.hurd_lookup.proofs.NestedLaws as nested
 use Rattle.hurd_lookup.proofs.NestedLaws.{Lends, words_same}
@@ -25,7 +26,7 @@ module _ (t : ℕ) (flags : OpenFlags) {v w : World} {At Near Entries : Name →
   sooner_alike : (o : Outcome) → OutcomeShown At Entries T v flags o → Alike (OutcomeShown At Entries T v flags) (sooner v t o) (sooner w t o)
   sooner_alike (Starts s) shown =
       on_alike _ _ _ _ _ _ refl b.task (λ x is.
-      first_alike At _ _ _ _ _ (nested.first_alike k.ground x.ids (k.lends x is) s.node shown.on) (λ n found at. start_alike n at))
+      first_alike At _ _ _ _ _ (nested.first_alike k.ground k.none x.ids (k.lends x is) s.node shown.on) (λ n found at. start_alike n at))
   sooner_alike (Opens e) shown = ok_alike _ (Opens e) shown
   sooner_alike (Makes s f ids ways) shown = ok_alike _ (Makes s f ids ways) shown
   sooner_alike (Retries kind name at) shown = ok_alike _ (Retries kind name at) shown
@@ -42,7 +43,7 @@ module _ (t p : ℕ) (path : List ℕ) (flags : OpenFlags) (mode : Mode) where
       first_alike (OutcomeShown At Entries T v flags) _ (found_asks v t p path r) (found_asks w t p path r) _ _
       (first_alike _ _ _ _ _ _ (b.port p) (λ q is on.
       on_alike _ _ _ _ _ _ refl (g.header q.node (g.near q.node on.node)) (λ h eh. given_alike _ _ _ _ _ _ refl refl (λ short.
-      first_alike _ _ _ _ _ _ (walk_alike g (by_right q) on.ids on.ways r q.node (names_in path) on.node) (λ place walked at. end_alike g (by_right q) on.ids on.ways r place at)))))
+      walk_alike g (by_right q) on.ids on.ways r q.node (names_in path) on.node))))
       (λ o is shown. sooner_alike t flags g b k o shown)
 
   pub lookup_laws : CallLaws t (λ w. plan_lookup w t p path flags mode) (λ w. touches_lookup w t p path flags mode)

@@ -46,16 +46,18 @@ words_from (Some x) = refl
 -- by what is lent of a task's ids it goes on the same ground
 pub record Lends (t : ℕ) (v w : World) (At Near Entries : Name → Type 0) (P : IdSets → Type 0) : Type 0 where
   pub ground : Ground v w At Near Entries P
+  pub none : P no_ids
   pub lends : (x : Task) → task_at v t ≡ Some x → (o : ℕ) → P (lent x.ids o)
 
 pub seen_lends : {S : ℕ → Bool} {v w : World} → Agree S v w → (t : ℕ) → S t ≡ true → Lends t v w (Seen S v) (Seen S v) (λ d. Sees S v (BodyOf d)) (Powers S v)
 seen_lends {S} {v} a t ours = record {
-  ground = seen_ground a (Powers S v) (λ i p. p) (taken_powers S v no_ids (no_ids_taken S v));
+  ground = seen_ground a (Powers S v) (λ i p. p);
+  none = taken_powers S v no_ids (no_ids_taken S v);
   lends = λ x is o. lent_powers S v x.ids ((seen_begins a t ours).ids x is) o;
 }
 
 pub held_lends : (w : World) → Stands w → (t : ℕ) → Lends t w w (CanBeAt (nodes_of w)) (Anywhere w) (Anywhere w) (AnyIds w)
-held_lends w st t = record { ground = held_ground w st; lends = λ x is o. tt }
+held_lends w st t = record { ground = held_ground w st; none = tt; lends = λ x is o. tt }
 
 module _ {v w : World} {At Near Entries : Name → Type 0} {P : IdSets → Type 0} (g : Ground v w At Near Entries P) where
   pub words_same : (n : Name) → Near n → words_at w n ≡ words_at v n
@@ -75,9 +77,9 @@ module _ {v w : World} {At Near Entries : Name → Type 0} {P : IdSets → Type 
         go (Ok (Sleeps m)) e k later = let same : m ≡ n = cc (k) in subst At same ((path_end_alike g ids taken path).has (Sleeps m) e)
         go (Err x) e k later = later k
 
-  module _ (ids : IdSets) (lends : (o : ℕ) → P (lent ids o)) where
+  module _ (none : P no_ids) (ids : IdSets) (lends : (o : ℕ) → P (lent ids o)) where
     lent_taken : (o : Option Header) → P (lent_by ids o)
-    lent_taken None = g.none
+    lent_taken None = none
     lent_taken (Some h) = lends h.owner
 
     needed_same : (n : Name) → Near n → needed w ids n ≡ needed v ids n

@@ -23,7 +23,7 @@ use Rattle.hurd_machine.proofs.Makes.{may_make, entered, entered_home, entered_h
 use Rattle.hurd_machine.proofs.Pending.{pends_whole}
 use Rattle.hurd_core.specs.Core.{asked_node}
 use Rattle.hurd_lookup.specs.Lookup.{NewPort, Outcome, Opens, Makes, Retries, Starts, may_open, no_modes, lookup_changes, lookup_parts}
-use Rattle.hurd_lookup.proofs.WalkLaws.{PortSeen}
+use Rattle.hurd_lookup.proofs.WalkLaws.{PortSeen, port_taken}
 use Rattle.hurd_lookup.proofs.HeldLaws.{PortHeld, OutcomeHeld}
 use Rattle.hurd_lookup.proofs.EndLaws.{MakeLeads, OutcomeSeen}
 use Rattle.hurd_machine.proofs.Piece.{Whole, stands, whole_none, whole_then}
@@ -91,7 +91,7 @@ module _ (w : World) (t : ℕ) (x : Task) (is : task_at w t ≡ Some x) (flags :
         opens_piece w t x is e.node e.ids e.parents modes (stands s) (own_task w t T) (inr (inr (fresh_new w t x is))) (λ p here. inl (on p here))
         (given s e.node (λ S ours. (seen S ours).node), held.node) (λ m way. (given s m (λ S ours. (seen S ours).ways m way), held.ways m way)) writes (λ S ours.
         let k = seen S ours in
-        opens_may S w w t x e.node e.ids e.parents modes ours (later_new S w t x x.made ours is (omega arith)) (inl k.node) (λ m way. inl (k.ways m way)) (inr k.ids) (reads S ours));
+        opens_may S w w t x e.node e.ids e.parents modes ours (later_new S w t x x.made ours is (omega arith)) (inl k.node) (λ m way. inl (k.ways m way)) (inr (port_taken S w e k)) (reads S ours));
     rests = rests_opening w t x is e.node e.ids e.parents modes s.settled;
   }
 
@@ -105,7 +105,7 @@ module _ (w : World) (t : ℕ) (x : Task) (is : task_at w t ≡ Some x) (flags :
       held (λ S ours. (shown S ours).on)
       (λ S ours told h eh.
       let same : l.header ≡ h = cc (l.is_header, eh) in
-      let ids = (shown S ours).on.ids in
+      let ids = port_taken S w e (shown S ours).on in
       elim (or_cases (asks modes READ) (counts_at w e.node && asks modes WRITE) told) [
         | inl read ↦ ToRead (Allowed e.ids ids (rw (← same) (reads e.ids l.header flags l.may (kept_read flags read))))
         | inr put ↦
@@ -132,7 +132,7 @@ module _ (w : World) (t : ℕ) (x : Task) (is : task_at w t ≡ Some x) (flags :
         rests = rests_opening left t (named 1 x) seat n ids ways modes d.settled;
       }))
     where
-      l : MakeLeads w q f
+      l : MakeLeads w q f ids
       l = (shown (λ k. true) refl).leads
 
       o : Outcome

@@ -4,13 +4,14 @@ use Rattle.std.specs.Prelude.{Result}
 use Rattle.hurd_machine.proofs.Common.{ENOENT, Errno, IdSets, IsAmong, Name, Seen, World, is_no_memory}
 use Rattle.hurd_creds.specs.declared.errno.Errno.TheVariants.{ELOOP}
 use Rattle.hurd_machine.proofs.Views.{Agree}
-use Rattle.hurd_lookup.specs.declared.request.Request.{Request}
 use Rattle.hurd_lookup.specs.declared.resolve.Landing.{Landing}
 use Rattle.hurd_lookup.specs.declared.resolve.Landing.TheVariants.{Lands, Sleeps}
-use Rattle.hurd_lookup.specs.Lookup.{Place, AtNode, AtName, Elsewhere, Waits, no_ids}
+use Rattle.hurd_lookup.specs.Lookup.{Outcome, Opens, Makes, Retries, Starts, no_modes}
 use Rattle.hurd_lookup.specs.Resolve.{Leg, awake, from_top, landed, path_end, leg_by, leg_request, legs, most_looks, resolve, resolve_all}
 use Rattle.hurd_lookup.proofs.AlikeLaws.{Alike, ok_alike, err_alike, on_alike, given_alike, first_alike}
-use Rattle.hurd_lookup.proofs.WalkLaws.{Ground, Powers, PlaceOn, WaysOn, no_ids_taken, seen_ground, taken_powers, walk_alike}
+use Rattle.hurd_lookup.proofs.WalkLaws.{Ground, Powers, WaysOn, seen_ground}
+use Rattle.hurd_lookup.proofs.EndLaws.{OutcomeOn, OutcomeShown}
+use Rattle.hurd_lookup.proofs.AlongLaws.{walk_alike}
 
 -- it can be where a path ends
 abbrev pub EndOn : (Name → Type 0) → Landing → Type 0
@@ -26,21 +27,21 @@ module _ {v w : World} {At Near Entries : Name → Type 0} {T : IdSets → Type 
   top_alike : (path : List ℕ) → Alike LegOn (from_top path) (from_top path)
   top_alike path = given_alike _ _ _ _ _ _ refl refl (λ k. ok_alike _ _ (record { node = g.top; ways = λ m i. absurd i }))
 
-  landed_alike : (r : Request) (j k : Leg → Result Landing _) → ((l : Leg) → LegOn l → Alike (EndOn At) (j l) (k l)) → (place : Place) → PlaceOn At Entries T place → Alike (EndOn At) (landed v r j place) (landed w r k place)
-  landed_alike r j k onward (AtNode n ways) at = on_alike _ _ _ _ _ _ refl (g.header n (g.near n at.0)) (λ h e. given_alike _ _ _ _ _ _ refl refl (λ is. ok_alike _ (Lands n) at.0))
-  landed_alike r j k onward (AtName d name) at = err_alike _ ENOENT refl
-  landed_alike r j k onward (Elsewhere kind name None) at = first_alike LegOn _ _ _ _ _ (top_alike name) (λ l is there. onward l there)
-  landed_alike r j k onward (Elsewhere kind name (Some e)) at =
+  landed_alike : (j k : Leg → Result Landing _) → ((l : Leg) → LegOn l → Alike (EndOn At) (j l) (k l)) → (o : Outcome) → OutcomeOn At Entries T o → Alike (EndOn At) (landed j o) (landed k o)
+  landed_alike j k onward (Opens e) at = ok_alike _ (Lands e.node) at.node
+  landed_alike j k onward (Makes s f ids ways) at = err_alike _ ENOENT refl
+  landed_alike j k onward (Retries kind name None) at = first_alike LegOn _ _ _ _ _ (top_alike name) (λ l is there. onward l there)
+  landed_alike j k onward (Retries kind name (Some e)) at =
       let l : Leg = record { node = e.node; ways = e.parents; path = name } in
       first_alike LegOn _ _ _ _ _ (ok_alike _ l (record { node = at.node; ways = at.ways })) (λ m is there. onward m there)
-  landed_alike r j k onward (Waits n words) at = ok_alike _ (Sleeps n) at
+  landed_alike j k onward (Starts s) at = ok_alike _ (Sleeps s.node) at
 
   legs_alike : (k : ℕ) (l : Leg) → LegOn l → Alike (EndOn At) (legs k v ids l) (legs k w ids l)
   legs_alike zero l at = err_alike _ ELOOP refl
   legs_alike (suc k) l at =
       on_alike _ _ _ _ _ _ refl (g.header l.node (g.near l.node at.node)) (λ h e. given_alike _ _ _ _ _ _ refl refl (λ short.
-      first_alike (PlaceOn At Entries T) _ _ _ _ _ (walk_alike g (leg_by ids l) taken at.ways (leg_request l.path) l.node _ at.node)
-      (λ place is there. landed_alike (leg_request l.path) (legs k v ids) (legs k w ids) (legs_alike k) place there)))
+      first_alike (OutcomeShown At Entries T v no_modes) _ _ _ _ _ (walk_alike g (leg_by ids l) taken at.ways (leg_request l.path) l.node _ at.node)
+      (λ o is shown. landed_alike (legs k v ids) (legs k w ids) (legs_alike k) o shown.on)))
 
   pub path_end_alike : (path : List ℕ) → Alike (EndOn At) (path_end v ids path) (path_end w ids path)
   unfolding path_end
@@ -73,5 +74,5 @@ module _ {S : ℕ → Bool} {v w : World} (a : Agree S v w) (ids : IdSets) (powe
 
   pub resolve_all_alike : (asleep : Errno) → is_no_memory asleep ≡ false → (paths : List (List ℕ)) → Alike AllSeen (resolve_all asleep v ids paths) (resolve_all asleep w ids paths)
   resolve_all_alike asleep plain paths =
-      let l = each_alike (seen_ground a (Powers S v) (λ i p. p) (taken_powers S v no_ids (no_ids_taken S v))) ids powers asleep plain paths in
+      let l = each_alike (seen_ground a (Powers S v) (λ i p. p)) ids powers asleep plain paths in
       record { same = l.same; has = λ ns is. (l.has ns is).0; plain = l.plain }

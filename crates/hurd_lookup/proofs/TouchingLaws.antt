@@ -1,11 +1,24 @@
 -- A lookup touches what is found along its path.
 use Rattle.std.proofs.Common.{◌≡◌, ◌∙◌, ℕ, List, refl, sym, subst}
 use Rattle.std.specs.Prelude.{Result, Ok, Err}
-use Rattle.hurd_machine.proofs.Common.{Errno, Mode, OpenFlags, Part, Task, World, asked_parts}
-use Rattle.hurd_machine.proofs.Asks.{first_ok}
-use Rattle.hurd_lookup.specs.Lookup.{Outcome, ending_asks, finding_parts, found_asks, lookup_parts, request, whole_asks}
+use Rattle.hurd_machine.proofs.Common.{Errno, Mode, OpenFlags, Part, PendingStart, Task, World, asked_parts, task_at}
+use Rattle.hurd_machine.proofs.Asks.{first_ok, on_ok}
+use Rattle.hurd_lookup.specs.Lookup.{Makes, Opens, Outcome, Retries, Starts, ending_asks, finding_parts, found_asks, lookup_parts, request, whole_asks}
+use Rattle.hurd_lookup.specs.Nested.{first_unstarted}
 use Rattle.hurd_lookup.specs.Seeking.{seeking_asks, sooner, touches_lookup}
-use Rattle.hurd_lookup.proofs.Touching.{ok_is, sooner_keeps}
+
+ok_is : {A : Type 0} {a b : A} → ◌≡◌ {A = Result A Errno} (Ok a) (Ok b) → a ≡ b
+ok_is e = cc (e)
+
+-- what is so of each start stays so
+sooner_keeps : (P : Outcome → Type 0) → ((s : PendingStart) → P (Starts s)) → (w : World) (t : ℕ) (o p : Outcome) → sooner w t o ≡ Ok p → P o → P p
+sooner_keeps P start w t (Starts s) p is has =
+    let x = on_ok _ (task_at w t) _ p is in
+    let n = first_ok (first_unstarted w x.0.ids s.node) _ p x.2 in
+    subst P (ok_is n.2) (start _)
+sooner_keeps P start w t (Opens e) p is has = subst P (ok_is is) has
+sooner_keeps P start w t (Makes s f ids ways) p is has = subst P (ok_is is) has
+sooner_keeps P start w t (Retries kind name at) p is has = subst P (ok_is is) has
 
 parts_of : {A : Type 0} (x : Result A Errno) (k : A → Part → Type 0) (p : Part) → asked_parts x k p → (a : A) × (x ≡ Ok a) × k a p
 unfolding asked_parts

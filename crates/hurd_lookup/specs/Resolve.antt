@@ -1,10 +1,9 @@
 -- Paths that the core follows for itself, to the targets of servers.
-use Rattle.std.specs.Prelude.{ℕ, zero, suc, ◌||◌, not, List, [], ◌∷◌, Option, Some, None, Result, Ok, Err}
+use Rattle.std.specs.Prelude.{ℕ, zero, suc, List, [], ◌∷◌, Option, Some, None, Result, Ok, Err}
 use Rattle.hurd_creds.specs.declared.name.Name.{Name}
 use Rattle.hurd_creds.specs.declared.errno.Errno.{Errno}
-use Rattle.hurd_creds.specs.declared.errno.Errno.TheVariants.{EDIED, ELOOP, ENAMETOOLONG, ENOENT, ENOTDIR}
+use Rattle.hurd_creds.specs.declared.errno.Errno.TheVariants.{EDIED, ELOOP, ENAMETOOLONG, ENOENT}
 use Rattle.hurd_creds.specs.Access.{IdSets}
-use Rattle.hurd_trans_iface.specs.Nodes.{is_dir}
 use Rattle.hurd_trans_iface.specs.Kinds.Symlink.{is_absolute}
 use Rattle.hurd_ports.specs.declared.parents.Parent.{Parent}
 use Rattle.hurd_machine.specs.World.{World, boot_root, header_at}
@@ -13,7 +12,7 @@ use Rattle.hurd_lookup.specs.declared.request.Request.{Request}
 use Rattle.hurd_lookup.specs.declared.resolve.Landing.{Landing}
 use Rattle.hurd_lookup.specs.declared.resolve.Landing.TheVariants.{Lands, Sleeps}
 use Rattle.hurd_lookup.specs.Path.{names_in, is_short}
-use Rattle.hurd_lookup.specs.Lookup.{Authority, NewPort, Place, AtNode, AtName, Elsewhere, Waits, no_modes, request, walk}
+use Rattle.hurd_lookup.specs.Lookup.{Authority, NewPort, Outcome, Opens, Makes, Retries, Starts, no_modes, request, walk}
 
 -- from which node, come in by which ways, and along which path it goes on
 pub record Leg : Type 0 where
@@ -38,19 +37,19 @@ leg_request path = request path no_modes (record { 0 = 0 })
 abbrev pub leg_by : IdSets → Leg → Authority
 leg_by ids l = record { ids = ids; ways = l.ways }
 
--- at the end of a walk: the node is there, and a directory if one is asked for; or it goes on elsewhere; or it ends where a translator waits to be started
-abbrev pub landed : World → Request → (Leg → Result Landing Errno) → Place → Result Landing Errno
-landed w r onward (AtNode n ways) = on EDIED (header_at w n) (λ h. given ENOTDIR (not r.wants_dir || is_dir h.kind) (Ok (Lands n)))
-landed w r onward (AtName d name) = Err ENOENT
-landed w r onward (Elsewhere kind name at) = first (leg_at name at) onward
-landed w r onward (Waits n words) = Ok (Sleeps n)
+-- at the end of a walk: it ends at a node; or it goes on elsewhere; or it ends where a translator waits to be started
+abbrev pub landed : (Leg → Result Landing Errno) → Outcome → Result Landing Errno
+landed onward (Opens e) = Ok (Lands e.node)
+landed onward (Makes s f ids ways) = Err ENOENT
+landed onward (Retries kind name at) = first (leg_at name at) onward
+landed onward (Starts s) = Ok (Sleeps s.node)
 
 -- one look, with these ids
 abbrev pub leg_asks : World → IdSets → Leg → (Leg → Result Landing Errno) → Result Landing Errno
 leg_asks w ids l onward =
     on EDIED (header_at w l.node) (λ h.
     given ENAMETOOLONG (is_short l.path) (
-    first (walk w (leg_by ids l) (leg_request l.path) l.node (names_in l.path)) (landed w (leg_request l.path) onward)))
+    first (walk w (leg_by ids l) (leg_request l.path) l.node (names_in l.path)) (landed onward)))
 
 -- with so many looks: ELOOP where one more is wanted
 abbrev pub legs : ℕ → World → IdSets → Leg → Result Landing Errno

@@ -3,28 +3,28 @@ ghost use Rattle.std.specs.Prelude.{◌≡◌, ◌&&◌, option_and_then};
 ghost use Rattle.std.specs.Option.{option_map};
 ghost use Rattle.hurd_creds.specs.Bits.{NOLINK, asks};
 ghost use Rattle.hurd_nodes.specs.Shown.{ServerInfo};
-ghost use Rattle.hurd_machine.specs.World.{World, server_at};
+ghost use Rattle.hurd_machine.specs.World.{server_at};
 ghost use Rattle.hurd_core.specs.Core.{world_of};
 ghost use Rattle.hurd_lookup.specs.Path.{names_in};
 ghost use Rattle.hurd_lookup.specs.Lookup.{Authority as AuthorityAt, cross, enter, follow, hold_on, is_last, to_cross};
-ghost use Rattle.hurd_lookup.specs.Ends.{CanGo, Finds, IsHere, Meeting, authority_of, place_of, text_at};
+ghost use Rattle.hurd_lookup.specs.Ends.{CanEnd, Crosses, Finds, IsHere, authority_of, outcome_of, text_at};
 
 use crate::authority::Authority;
+use crate::end::{Outcome, open_asked};
 use crate::here::Here;
 use crate::request::Request;
 use crate::rest::{fits, is_last};
 use crate::retry::{Onward, Retry, text_at};
-use crate::walk::Place;
 use hurd_core::Core;
 use hurd_creds::{Errno, NodeName, OpenFlags, ServerName};
 use hurd_ports::Parent;
 use hurd_trans_iface::{Crossing, Server};
 
-/// What is met at a node.
+/// What is crossed at a node.
 #[derive(Clone, Copy, Debug)]
-pub(crate) enum Met {
-    /// The node, where nothing is to be crossed.
-    Node(Here),
+pub(crate) enum Crossed {
+    /// Nothing: it goes on at the node.
+    Nothing(Here),
     /// The server that is active there, by its root.
     Active(NodeName),
     /// A translator that waits there to be started.
@@ -47,35 +47,39 @@ pub(crate) fn to_cross<S: Server>(
     request: Request,
     node: NodeName,
     rest: &[u8],
-) -> Met
-    ensures { let w = world_of S.meaning core.now in Meeting w node (to_cross w request node (names_in rest.now)) result }
+) -> Crossed
+    ensures { let w = world_of S.meaning core.now in Crosses w node (to_cross w request node (names_in rest.now)) result }
 {
     let is_held = is_last(rest) && request.flags.asks(OpenFlags::NOTRANS);
     let (active, here) = Here::met(core, node);
     if !is_held {
         if let Some(root) = root_by(core, active) {
-            return Met::Active(root);
+            return Crossed::Active(root);
         }
     }
     if !is_held && active.is_none() && here.has_words() {
-        Met::Waiting
+        Crossed::Waiting
     } else {
-        Met::Node(here)
+        Crossed::Nothing(here)
     }
 }
 
 /// Into a server that is active on a node of this directory, by its root: the last node is opened there, and more names
-/// are looked up there. `ELOOP`: a port came in by 64 ways.
+/// are looked up there.
+///
+/// Errors, in order: `ELOOP` a port came in by 64 ways, at the last node those of `open_asked`.
 #[tactic(auto, unfolding(hurd_machine::specs::Plan::given))]
-fn enter<'a>(
+fn enter<'a, S: Server>(
+    core: &Core<S>,
     authority: Authority,
     request: Request,
     dir: NodeName,
-    root: Here,
+    root: &Here,
     rest: &'a [u8],
-) -> Result<Place<'a>, Errno>
-    ensures { (w : World) → let q = authority_of authority.entry in
-        IsHere w root → Finds (place_of w q) (CanGo w q) (enter q request dir root.node (names_in rest.entry.now)) result }
+) -> Result<Outcome<'a>, Errno>
+    requires { IsHere (world_of S.meaning core.now) root.now }
+    ensures { let w = world_of S.meaning core.now in let q = authority_of authority.entry in
+        Finds (outcome_of w q) (CanEnd w q) (enter w q request dir root.now.node (names_in rest.entry.now)) result }
 {
     if authority.ways.is_full() {
         return Err(Errno::ELOOP);
@@ -85,9 +89,9 @@ fn enter<'a>(
         parent: dir,
     };
     if is_last(rest) {
-        return Ok(Place::AtNode(root, Some(way)));
+        return open_asked(core, authority, request, root, Some(way));
     }
-    Ok(Place::Elsewhere(Retry {
+    Ok(Outcome::Retries(Retry {
         onward: Onward::Within(way),
         rest,
         slash: request.slash,
@@ -103,9 +107,9 @@ fn follow<'a, S: Server>(
     dir: NodeName,
     root: NodeName,
     rest: &'a [u8],
-) -> Result<Place<'a>, Errno>
+) -> Result<Outcome<'a>, Errno>
     ensures { (q : AuthorityAt) → let w = world_of S.meaning core.now in
-        Finds (place_of w q) (CanGo w q) (follow absolute q request dir (text_at w root) (names_in rest.entry.now)) result }
+        Finds (outcome_of w q) (CanEnd w q) (follow absolute q request dir (text_at w root) (names_in rest.entry.now)) result }
 {
     if !fits(text_at(core, root), rest, request.slash) {
         return Err(Errno::ENAMETOOLONG);
@@ -115,7 +119,7 @@ fn follow<'a, S: Server>(
     } else {
         Onward::Beside(dir, root)
     };
-    Ok(Place::Elsewhere(Retry {
+    Ok(Outcome::Retries(Retry {
         onward,
         rest,
         slash: request.slash,
@@ -133,9 +137,9 @@ fn hold_on<'a, S: Server>(
     dir: NodeName,
     target: Option<NodeName>,
     rest: &'a [u8],
-) -> Result<Place<'a>, Errno>
+) -> Result<Outcome<'a>, Errno>
     ensures { let w = world_of S.meaning core.now in let q = authority_of authority.entry in
-        Finds (place_of w q) (CanGo w q) (hold_on w q request dir target (names_in rest.entry.now)) result }
+        Finds (outcome_of w q) (CanEnd w q) (hold_on w q request dir target (names_in rest.entry.now)) result }
 {
     let Some(node) = target else {
         return Err(Errno::EDIED);
@@ -150,7 +154,7 @@ fn hold_on<'a, S: Server>(
         at: node,
         parent: dir,
     };
-    Ok(Place::Elsewhere(Retry {
+    Ok(Outcome::Retries(Retry {
         onward: Onward::Aimed(way),
         rest,
         slash: request.slash,
@@ -167,7 +171,7 @@ fn is_final(request: Request, rest: &[u8]) -> bool
 /// Across the root of a server that is active on a node of this directory: a link leads on, unless it is the last and
 /// `NOLINK` is set, a firm link leads to its target, and any other is entered.
 ///
-/// Errors, in order: `EDIED` the root is gone, or a firm link's target, `ENAMETOOLONG` along a link, `ELOOP` along a firm link or into any other.
+/// Errors, in order: `EDIED` the root is gone, or a firm link's target, `ENAMETOOLONG` along a link, `ELOOP` along a firm link, those of `enter` into any other.
 #[tactic(auto, unfolding(hurd_machine::specs::Plan::on, hurd_machine::specs::Plan::first))]
 pub(crate) fn cross<'a, S: Server>(
     core: &Core<S>,
@@ -176,9 +180,9 @@ pub(crate) fn cross<'a, S: Server>(
     dir: NodeName,
     root: NodeName,
     rest: &'a [u8],
-) -> Result<Place<'a>, Errno>
+) -> Result<Outcome<'a>, Errno>
     ensures { let w = world_of S.meaning core.now in let q = authority_of authority.entry in
-        Finds (place_of w q) (CanGo w q) (cross w q request dir root (names_in rest.entry.now)) result }
+        Finds (outcome_of w q) (CanEnd w q) (cross w q request dir root (names_in rest.entry.now)) result }
 {
     let here = Here::at(core, root);
     if here.attrs.is_none() {
@@ -188,15 +192,15 @@ pub(crate) fn cross<'a, S: Server>(
         return Err(Errno::EDIED);
     };
     match served.crossing {
-        Crossing::Plain => enter(authority, request, dir, here, rest),
-        Crossing::Union => enter(authority, request, dir, here, rest),
+        Crossing::Plain => enter(core, authority, request, dir, &here, rest),
+        Crossing::Union => enter(core, authority, request, dir, &here, rest),
         Crossing::Firm => {
             let target = core.targets_at(root).first().copied();
             hold_on(core, authority, request, dir, target, rest)
         }
         Crossing::Link { absolute } => {
             if is_final(request, rest) {
-                return enter(authority, request, dir, here, rest);
+                return enter(core, authority, request, dir, &here, rest);
             }
             follow(core, absolute, request, dir, root, rest)
         }

@@ -1,24 +1,22 @@
-//! What is to be done at the end of the names.
-ghost use Rattle.std.specs.Prelude.{◌≡◌, List};
+//! What is to be done at the end of the names: a node is opened there, or a file made.
+ghost use Rattle.std.specs.Prelude.{◌≡◌};
 ghost use Rattle.hurd_nodes.specs.Shown.{header_in};
-ghost use Rattle.hurd_ports.specs.declared.parents.Parent.{Parent};
 ghost use Rattle.hurd_trans_iface.specs.Nodes.{is_dir};
 ghost use Rattle.hurd_machine.specs.World.{info_at, is_removed, is_text, only_reads};
 ghost use Rattle.hurd_core.specs.Core.{world_of};
-ghost use Rattle.hurd_lookup.specs.Lookup.{end_asks, make_asks, may_open, open_asks};
-ghost use Rattle.hurd_lookup.specs.Ends.{CanEnd, CanGo, Finds, IsHere, authority_of, opened, outcome_of, place_of};
+ghost use Rattle.hurd_lookup.specs.Lookup.{make_asks, may_open, open_asks};
+ghost use Rattle.hurd_lookup.specs.Ends.{CanEnd, Finds, HasRoom, IsHere, authority_of, outcome_of, ways_by};
 
 use crate::authority::Authority;
 use crate::here::Here;
 use crate::request::Request;
 use crate::retry::Retry;
-use crate::walk::Place;
 use hurd_core::{Core, NodeToMake};
 use hurd_creds::{Attrs, Errno, Ids, Kind, NodeName, OpenFlags, Want};
 use hurd_ports::Parent;
 use hurd_trans_iface::{Server, is_dir};
 
-/// What is to be done at the end of the names.
+/// What names lead to.
 #[derive(Clone, Copy, Debug)]
 pub(crate) enum Outcome<'a> {
     /// A node is opened: of a server that was entered by a way, if one was.
@@ -60,20 +58,22 @@ fn only_reads<S: Server>(core: &Core<S>, node: NodeName) -> bool
     }
 }
 
-/// Whether the node at the end of the names may be opened.
+/// Opens the node at the end of the names: of a server that was entered by a way, if one was.
 ///
 /// Errors, in order: `EDIED` no such node, `ENOTDIR` a directory is wanted, `EISDIR` to write a directory, `EROFS` to write
 /// a node of a server that only gives its text, `EACCES`.
 #[tactic(auto, unfolding(hurd_machine::specs::Plan::on, hurd_machine::specs::Plan::given))]
-fn open_asked<S: Server>(
+pub(crate) fn open_asked<'a, S: Server>(
     core: &Core<S>,
-    ids: &Ids,
+    authority: Authority,
     request: Request,
     here: &Here,
-) -> Result<(), Errno>
-    requires { IsHere (world_of S.meaning core.now) here.now }
-    ensures { (ways : List Parent) → open_asks (world_of S.meaning core.now) ids.now request here.now.node ways
-        ≡ opened (record { node = here.now.node; ids = ids.now; parents = ways }) result }
+    entered: Option<Parent>,
+) -> Result<Outcome<'a>, Errno>
+    requires here { IsHere (world_of S.meaning core.now) here.now }
+    requires room { HasRoom (authority_of authority) entered }
+    ensures { let w = world_of S.meaning core.now in let q = authority_of authority.entry in
+        Finds (outcome_of w q) (CanEnd w q) (open_asks w q.ids request here.now.node (ways_by entered q.ways)) result }
 {
     let Some(attrs) = here.attrs else {
         return Err(Errno::EDIED);
@@ -89,10 +89,10 @@ fn open_asked<S: Server>(
     if writes && only_reads(core, here.node) {
         return Err(Errno::EROFS);
     }
-    if !may_open(ids, &attrs, request.flags) {
+    if !may_open(authority.ids, &attrs, request.flags) {
         return Err(Errno::EACCES);
     }
-    Ok(())
+    Ok(Outcome::Opens(here.node, entered))
 }
 
 /// Whether a directory of these attributes is removed. Where it has a parent, its server isn't asked.
@@ -102,12 +102,12 @@ fn is_removed<S: Server>(core: &Core<S>, dir: NodeName, attrs: &Attrs) -> bool
     attrs.parent.is_none() && core.is_removed(dir, attrs)
 }
 
-/// Whether these ids may make a file in a directory under a name, and whose it is then: the least uid's.
+/// Makes a file in a directory under a name, which belongs to the least uid.
 ///
 /// Errors, in order: those of `Core::can_make`, `EACCES` the ids may not write the directory, or have no uids, `ENOENT` a
 /// removed directory.
 #[tactic(auto, using(crate::proofs::MakerLaws::maker_is), unfolding(hurd_machine::specs::Plan::on, hurd_machine::specs::Plan::given, hurd_machine::specs::Plan::first))]
-fn make_asked<'a, S: Server>(
+pub(crate) fn make_asked<'a, S: Server>(
     core: &Core<S>,
     authority: Authority,
     request: Request,
@@ -140,29 +140,4 @@ fn make_asked<'a, S: Server>(
         mode: request.mode.known(),
     };
     Ok(Outcome::Makes(file))
-}
-
-/// What is to be done at the end of the names.
-///
-/// Errors: those of `open_asked`, or of `make_asked`.
-#[inline(always)]
-pub(crate) fn end_asked<'a, S: Server>(
-    core: &Core<S>,
-    authority: Authority,
-    request: Request,
-    place: Place<'a>,
-) -> Result<Outcome<'a>, Errno>
-    requires { CanGo (world_of S.meaning core.now) (authority_of authority) place }
-    ensures { let w = world_of S.meaning core.now in let q = authority_of authority.entry in
-        Finds (outcome_of w q) (CanEnd w q) (end_asks w q request (place_of w q place.entry)) result }
-{
-    match place {
-        Place::AtNode(here, entered) => {
-            open_asked(core, authority.ids, request, &here)?;
-            Ok(Outcome::Opens(here.node, entered))
-        }
-        Place::AtName(here, name) => make_asked(core, authority, request, &here, name),
-        Place::Elsewhere(retry) => Ok(Outcome::Retries(retry)),
-        Place::Waits(node) => Ok(Outcome::Starts(node)),
-    }
 }

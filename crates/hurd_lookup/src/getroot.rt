@@ -8,7 +8,6 @@ ghost use Rattle.hurd_lookup.specs.Ends.{CanBe, Finds, entered, found_of};
 
 use crate::authority::Authority;
 use crate::cross::cross;
-use crate::end::end_asked;
 use crate::found::FoundAt;
 use crate::request::Request;
 use bitflags::Flags;
@@ -76,7 +75,7 @@ impl Request {
 
 /// Crosses the root of a server that a port controls. Takes no memory.
 ///
-/// Errors, in order: those of `entrance_asked`, those of `cross`, those of `end_asked`.
+/// Errors, in order: those of `entrance_asked`, those of `cross`.
 #[tactic(auto, unfolding(hurd_machine::specs::Plan::first))]
 fn root_asked<'a, S: Server>(
     core: &'a Core<S>,
@@ -93,8 +92,7 @@ fn root_asked<'a, S: Server>(
         start,
         authority,
     } = entrance_asked(core, task, control, dir)?;
-    let place = cross(core, authority, request, start, root, &[])?;
-    let outcome = end_asked(core, authority, request, place)?;
+    let outcome = cross(core, authority, request, start, root, &[])?;
     Ok(FoundAt { authority, outcome })
 }
 

@@ -8,7 +8,7 @@ ghost use Rattle.hurd_lookup.specs.Seeking.{FindsSooner, LookupLacks, plan_looku
 ghost use Rattle.hurd_lookup.specs.Ends.{CanBe, Finds, found_of};
 
 use crate::authority::Authority;
-use crate::end::{Outcome, end_asked};
+use crate::end::Outcome;
 use crate::found::FoundAt;
 use crate::here::Here;
 use crate::nested::first_unstarted;
@@ -23,7 +23,7 @@ use std::alloc::Global;
 
 /// Goes from the node of a port along a path to its end. Takes no memory.
 ///
-/// Errors, in order: `ESRCH`, `EBADF`, `EDIED`, `ENAMETOOLONG`, those of `walk`, those of `end_asked`.
+/// Errors, in order: `ESRCH`, `EBADF`, `EDIED`, `ENAMETOOLONG`, those of `walk`.
 #[tactic(auto, unfolding(hurd_machine::specs::Plan::on, hurd_machine::specs::Plan::given, hurd_machine::specs::Plan::first))]
 #[inline(always)]
 pub(crate) fn found_asked<'a, 'p, S: Server>(
@@ -48,8 +48,7 @@ pub(crate) fn found_asked<'a, 'p, S: Server>(
         ids: &right.ids,
         ways: &right.parents,
     };
-    let place = walk(core, authority, request, here, path)?;
-    let outcome = end_asked(core, authority, request, place)?;
+    let outcome = walk(core, authority, request, here, path)?;
     Ok(FoundAt { authority, outcome })
 }
 

@@ -1,30 +1,25 @@
 //! Following a path inside the core, to the targets of servers.
-ghost use Rattle.std.specs.Prelude.{◌≡◌, ◌<◌, [], ◌∷◌, List, Result, IfSome, IsOk, OnOk, length};
-ghost use Rattle.hurd_creds.specs.declared.name.Name.{Name};
-ghost use Rattle.hurd_creds.specs.declared.errno.Errno.{Errno as Refusal};
+ghost use Rattle.std.specs.Prelude.{◌≡◌, ◌<◌, [], ◌∷◌, IfSome, IsOk, OnOk, length};
 ghost use Rattle.hurd_trans_iface.specs.Kinds.Symlink.{is_absolute};
 ghost use Rattle.hurd_ports.specs.Limits.{most_parents};
-ghost use Rattle.hurd_ports.specs.declared.parents.Parent.{Parent};
-ghost use Rattle.hurd_machine.specs.World.{World};
 ghost use Rattle.hurd_core.specs.Core.{world_of};
-ghost use Rattle.hurd_lookup.specs.Ends.{CanGo, IsHere, authority_of, name_of, place_of, port_by, way_of};
-ghost use Rattle.hurd_lookup.specs.Lookup.{AtNode};
-ghost use Rattle.hurd_lookup.specs.declared.resolve.Landing.{Landing as LandingAt};
-ghost use Rattle.hurd_lookup.specs.Resolve.{Leg as LegAt, from_top, landed, path_end, leg_asks, leg_at, resolve, resolve_all};
-ghost use Rattle.hurd_lookup.specs.Legs.{FindsLanding, Leads, OrLacks, lands, leg_of};
+ghost use Rattle.hurd_lookup.specs.Ends.{CanEnd, authority_of, name_of, outcome_of, port_by, way_of};
+ghost use Rattle.hurd_lookup.specs.Resolve.{from_top, landed, path_end, leg_asks, leg_at, resolve, resolve_all};
+ghost use Rattle.hurd_lookup.specs.Legs.{FindsLanding, Leads, OrLacks, leg_of};
 
 use crate::authority::{Authority, NewPort};
+use crate::end::Outcome;
 use crate::here::Here;
 use crate::path::is_short;
 use crate::request::Request;
 use crate::retry::Retry;
-use crate::walk::{Place, walk};
+use crate::walk::walk;
 use bitflags::Flags;
 use hurd_core::Core;
 use hurd_creds::{Bytes, Errno, Ids, Mode, NodeName, OpenFlags};
 use hurd_nodes::BOOT_NAME;
 use hurd_ports::Parents;
-use hurd_trans_iface::{Server, is_dir};
+use hurd_trans_iface::Server;
 use std::alloc::{AllocError, Global};
 
 /// So many looks are made along a path at most: the first, and 32 retries.
@@ -111,45 +106,25 @@ fn onward<S: Server>(
     }
 }
 
-/// A node at the end of a walk.
-///
-/// Errors, in order: `EDIED` it is gone, `ENOTDIR` a directory is asked for.
-#[tactic(auto, unfolding(hurd_machine::specs::Plan::on, hurd_machine::specs::Plan::given))]
-fn landed(request: Request, here: &Here) -> Result<NodeName, Errno>
-    ensures { (w : World) → IsHere w here.now → (onward : LegAt → Result LandingAt Refusal) (ways : List Parent) → lands result ≡ landed w request onward (AtNode here.now.node ways) }
-{
-    let Some(attrs) = here.attrs else {
-        return Err(Errno::EDIED);
-    };
-    if request.wants_dir && !is_dir(attrs.kind) {
-        return Err(Errno::ENOTDIR);
-    }
-    Ok(here.node)
-}
-
 /// Where a walk ended.
 ///
-/// Errors: those of `landed`, `ENOENT` no such entry, those of `onward`.
+/// Errors: `ENOENT` no such entry, those of `onward`.
 #[tactic(auto, unfolding(hurd_machine::specs::Plan::first))]
 fn ended<S: Server>(
     core: &Core<S>,
     alloc: Global,
     authority: Authority,
-    request: Request,
-    place: Place,
+    outcome: Outcome,
 ) -> Result<Looked, Errno>
-    requires { CanGo (world_of S.meaning core.now) (authority_of authority) place }
+    requires { CanEnd (world_of S.meaning core.now) (authority_of authority) outcome }
     ensures { let w = world_of S.meaning core.now in
-        Leads w (λ onward. landed w request onward (place_of w (authority_of authority.entry) place.entry)) result }
+        Leads w (λ onward. landed onward (outcome_of w (authority_of authority.entry) outcome.entry)) result }
 {
-    match place {
-        Place::AtNode(here, _) => {
-            let node = landed(request, &here)?;
-            Ok(Looked::Ends(Landing::Lands(node)))
-        }
-        Place::AtName(_, _) => Err(Errno::ENOENT),
-        Place::Elsewhere(retry) => Ok(Looked::Goes(onward(core, alloc, authority, retry)?)),
-        Place::Waits(node) => Ok(Looked::Ends(Landing::Sleeps(node))),
+    match outcome {
+        Outcome::Opens(node, _) => Ok(Looked::Ends(Landing::Lands(node))),
+        Outcome::Makes(_) => Err(Errno::ENOENT),
+        Outcome::Retries(retry) => Ok(Looked::Goes(onward(core, alloc, authority, retry)?)),
+        Outcome::Starts(node) => Ok(Looked::Ends(Landing::Sleeps(node))),
     }
 }
 
@@ -170,8 +145,8 @@ fn look<S: Server>(core: &Core<S>, alloc: Global, ids: &Ids, leg: Leg) -> Result
     }
     let authority = Authority { ids, ways: &ways };
     let request = Request::new(path.as_slice(), OpenFlags::empty(), Mode::empty());
-    let place = walk(core, authority, request, here, path.as_slice())?;
-    ended(core, alloc, authority, request, place)
+    let outcome = walk(core, authority, request, here, path.as_slice())?;
+    ended(core, alloc, authority, outcome)
 }
 
 /// Where a path from the root of the tree ends for who has these ids, along links and across servers: the client's loop inside the core, with the same ids throughout.

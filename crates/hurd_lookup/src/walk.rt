@@ -7,10 +7,11 @@ ghost use Rattle.hurd_machine.specs.Plan.{first, given};
 ghost use Rattle.hurd_core.specs.Core.{world_of};
 ghost use Rattle.hurd_lookup.specs.Path.{names_in};
 ghost use Rattle.hurd_lookup.specs.Lookup.{Authority as AuthorityAt, arrive, branch_in, came_in_at, go_back, go_into, is_exclusive, is_last, miss, over, shows_name, step_asks, step_by, step_up, stepped, to_cross, walk};
-ghost use Rattle.hurd_lookup.specs.Ends.{CanGo, Finds, Goes, IsHere, authority_of, place_of};
+ghost use Rattle.hurd_lookup.specs.Ends.{CanEnd, Finds, Goes, IsHere, authority_of, outcome_of};
 
 use crate::authority::Authority;
-use crate::cross::{Met, cross, to_cross};
+use crate::cross::{Crossed, cross, to_cross};
+use crate::end::{Outcome, make_asked, open_asked};
 use crate::here::Here;
 use crate::path::first_name;
 use crate::request::Request;
@@ -18,7 +19,7 @@ use crate::rest::is_last;
 use crate::retry::{Onward, Retry};
 use hurd_core::Core;
 use hurd_creds::{Attrs, Errno, Ids, Kind, NodeName, OpenFlags, Want};
-use hurd_ports::{Parent, Parents};
+use hurd_ports::Parents;
 use hurd_trans_iface::{Server, is_dir};
 
 /// Where one name leads from a directory.
@@ -36,24 +37,11 @@ pub(crate) enum Next {
     Absent,
 }
 
-/// What the names lead to.
-#[derive(Clone, Copy, Debug)]
-pub(crate) enum Place<'a> {
-    /// A node that is opened: of a server that was entered by a way, if one was.
-    AtNode(Here, Option<Parent>),
-    /// A name in a directory, under which a file is to be made.
-    AtName(Here, &'a [u8]),
-    /// A name that is looked up in another lookup.
-    Elsewhere(Retry<'a>),
-    /// A node on which a translator waits that is to be started first.
-    Waits(NodeName),
-}
-
 /// After one name: on at a node, or at the end.
 #[derive(Clone, Copy, Debug)]
 enum Step<'a> {
     On(Here),
-    To(Place<'a>),
+    To(Outcome<'a>),
 }
 
 /// Whether a port came into a server's tree at this node.
@@ -178,28 +166,48 @@ impl Request {
         }
         Ok(())
     }
+}
 
-    /// At the end of the names. `EEXIST`: a node that is there is refused.
-    #[tactic(auto, unfolding(hurd_machine::specs::Plan::given))]
-    fn arrive<'a>(self, here: Here) -> Result<Place<'a>, Errno>
-        ensures { (w : World) (q : AuthorityAt) → IsHere w here → Finds (place_of w q) (CanGo w q) (arrive self q.ways here.node) result }
-    {
-        if self.is_exclusive() {
-            return Err(Errno::EEXIST);
-        }
-        Ok(Place::AtNode(here, None))
+/// At the end of the names.
+///
+/// Errors, in order: `EEXIST` a node that is there is refused, those of `open_asked`.
+#[tactic(auto, unfolding(hurd_machine::specs::Plan::given))]
+fn arrive<'a, S: Server>(
+    core: &Core<S>,
+    authority: Authority,
+    request: Request,
+    here: &Here,
+) -> Result<Outcome<'a>, Errno>
+    requires { IsHere (world_of S.meaning core.now) here.now }
+    ensures { let w = world_of S.meaning core.now in let q = authority_of authority.entry in
+        Finds (outcome_of w q) (CanEnd w q) (arrive w q request here.now.node) result }
+{
+    if request.is_exclusive() {
+        return Err(Errno::EEXIST);
     }
+    open_asked(core, authority, request, here, None)
+}
 
-    /// A name that no entry has. `ENOENT`: it is not the last, a directory is asked for, or `CREATE` is not.
-    #[tactic(auto, unfolding(hurd_machine::specs::Plan::given))]
-    fn miss<'a>(self, here: Here, name: &'a [u8], is_last: bool) -> Result<Place<'a>, Errno>
-        ensures { (w : World) (q : AuthorityAt) → IsHere w here → Finds (place_of w q) (CanGo w q) (miss self here.node name.entry.now is_last) result }
-    {
-        if is_last && self.flags.asks(OpenFlags::CREATE) && !self.wants_dir {
-            Ok(Place::AtName(here, name))
-        } else {
-            Err(Errno::ENOENT)
-        }
+/// A name that no entry has.
+///
+/// Errors, in order: `ENOENT` it is not the last, a directory is asked for, or `CREATE` is not, those of `make_asked`.
+#[tactic(auto, unfolding(hurd_machine::specs::Plan::given))]
+fn miss<'a, S: Server>(
+    core: &Core<S>,
+    authority: Authority,
+    request: Request,
+    here: &Here,
+    name: &'a [u8],
+    is_last: bool,
+) -> Result<Outcome<'a>, Errno>
+    requires { IsHere (world_of S.meaning core.now) here.now }
+    ensures { let w = world_of S.meaning core.now in let q = authority_of authority.entry in
+        Finds (outcome_of w q) (CanEnd w q) (miss w q request here.now.node name.entry.now is_last) result }
+{
+    if is_last && request.flags.asks(OpenFlags::CREATE) && !request.wants_dir {
+        make_asked(core, authority, request, here, name)
+    } else {
+        Err(Errno::ENOENT)
     }
 }
 
@@ -212,9 +220,9 @@ fn go_back<'a, S: Server>(
     authority: Authority,
     request: Request,
     rest: &'a [u8],
-) -> Result<Place<'a>, Errno>
+) -> Result<Outcome<'a>, Errno>
     ensures { let w = world_of S.meaning core.now in let q = authority_of authority.entry in
-        Finds (place_of w q) (CanGo w q) (go_back w request (names_in rest.entry.now) q.ways) result }
+        Finds (outcome_of w q) (CanEnd w q) (go_back w request (names_in rest.entry.now) q.ways) result }
 {
     let Some(way) = authority.ways.first() else {
         return Err(Errno::ENOENT);
@@ -222,7 +230,7 @@ fn go_back<'a, S: Server>(
     if core.attrs(way.parent).is_none() {
         return Err(Errno::EDIED);
     }
-    Ok(Place::Elsewhere(Retry {
+    Ok(Outcome::Retries(Retry {
         onward: Onward::Back(way.parent),
         rest,
         slash: request.slash,
@@ -245,25 +253,25 @@ fn over<'a, S: Server>(
         Goes w q (λ onward. over w q request dir node (to_cross w request node names) names (onward node)) result }
 {
     match to_cross(core, request, node, rest) {
-        Met::Node(here) => Ok(Step::On(here)),
-        Met::Active(root) => {
+        Crossed::Nothing(here) => Ok(Step::On(here)),
+        Crossed::Active(root) => {
             request.passes(rest)?;
-            let place = cross(core, authority, request, dir, root, rest)?;
-            Ok(Step::To(place))
+            let outcome = cross(core, authority, request, dir, root, rest)?;
+            Ok(Step::To(outcome))
         }
-        Met::Waiting => {
+        Crossed::Waiting => {
             request.passes(rest)?;
-            Ok(Step::To(Place::Waits(node)))
+            Ok(Step::To(Outcome::Starts(node)))
         }
     }
 }
 
 /// On at a branch of a union, with what is left of the path.
-fn go_into<'a>(request: Request, branch: NodeName, path: &'a [u8]) -> Place<'a>
-    ensures place { (w : World) (q : AuthorityAt) → place_of w q result ≡ go_into q request branch (names_in path.entry.now) }
-    ensures can { (w : World) (q : AuthorityAt) → CanGo w q result }
+fn go_into<'a>(request: Request, branch: NodeName, path: &'a [u8]) -> Outcome<'a>
+    ensures outcome { (w : World) (q : AuthorityAt) → outcome_of w q result ≡ go_into q request branch (names_in path.entry.now) }
+    ensures can { (w : World) (q : AuthorityAt) → CanEnd w q result }
 {
-    Place::Elsewhere(Retry {
+    Outcome::Retries(Retry {
         onward: Onward::Into(branch),
         rest: path,
         slash: request.slash,
@@ -272,7 +280,7 @@ fn go_into<'a>(request: Request, branch: NodeName, path: &'a [u8]) -> Place<'a>
 
 /// From a directory by the first name of a path, behind which its rest follows.
 ///
-/// Errors, in order: those of `step_asked`, those of `over`, of `go_back`, or `ENOENT` where the name is missed.
+/// Errors, in order: those of `step_asked`, those of `over`, of `go_back`, or of `miss`.
 #[tactic(auto, unfolding(hurd_machine::specs::Plan::first))]
 #[inline(always)]
 fn stepped<'a, S: Server>(
@@ -295,13 +303,16 @@ fn stepped<'a, S: Server>(
         Next::Entry(node) => over(core, authority, request, dir, node, rest),
         Next::Branch(branch) => Ok(Step::To(go_into(request, branch, path))),
         Next::Back => Ok(Step::To(go_back(core, authority, request, rest)?)),
-        Next::Absent => Ok(Step::To(request.miss(here, name, is_last(rest))?)),
+        Next::Absent => {
+            let outcome = miss(core, authority, request, &here, name, is_last(rest))?;
+            Ok(Step::To(outcome))
+        }
     }
 }
 
 /// Goes from a node along the names of a path. Each node on the way is asked once what it is.
 ///
-/// Errors, at each name: those of `stepped`; at the end `EEXIST`.
+/// Errors, at each name: those of `stepped`; at the end those of `arrive`.
 #[inline(always)]
 pub(crate) fn walk<'a, S: Server>(
     core: &Core<S>,
@@ -309,19 +320,19 @@ pub(crate) fn walk<'a, S: Server>(
     request: Request,
     start: Here,
     path: &'a [u8],
-) -> Result<Place<'a>, Errno>
+) -> Result<Outcome<'a>, Errno>
     requires { IsHere (world_of S.meaning core.now) start }
     ensures { let w = world_of S.meaning core.now in let q = authority_of authority.entry in
-        Finds (place_of w q) (CanGo w q) (walk w q request start.node (names_in path.entry.now)) result }
+        Finds (outcome_of w q) (CanEnd w q) (walk w q request start.node (names_in path.entry.now)) result }
 {
     let mut here = start;
     let mut rest = path;
     while let Some((name, after)) = first_name(rest) {
         match stepped(core, authority, request, here, rest, name, after)? {
             Step::On(node) => here = node,
-            Step::To(place) => return Ok(place),
+            Step::To(outcome) => return Ok(outcome),
         }
         rest = after;
     }
-    request.arrive(here)
+    arrive(core, authority, request, &here)
 }

@@ -11,14 +11,14 @@ returns-in-Plain g c =
     let w = world_of g.S.Server.meaning c.args.core.now in
     let h = here_there w c.args.root c.at-here.result c.at-here.ensures.node c.at-here.ensures.here c.is_none.result c.is_none.ensures c.if-is_none.false in
     rw (served w c.args.root h.0 h.1 c.in-Some.served c.in-Some.ensures (authority_of c.args.authority) c.args.request c.args.dir (names_in c.args.rest.now) _ c.in-Plain.is)
-    (rw c.at-here.ensures.node at (c.enter.ensures w c.at-here.ensures.here))
+    (rw c.at-here.ensures.node at c.enter.ensures)
 
 pub returns-in-Union : goal.returns-in-Union
 returns-in-Union g c =
     let w = world_of g.S.Server.meaning c.args.core.now in
     let h = here_there w c.args.root c.at-here.result c.at-here.ensures.node c.at-here.ensures.here c.is_none.result c.is_none.ensures c.if-is_none.false in
     rw (served w c.args.root h.0 h.1 c.in-Some.served c.in-Some.ensures (authority_of c.args.authority) c.args.request c.args.dir (names_in c.args.rest.now) _ c.in-Union.is)
-    (rw c.at-here.ensures.node at (c.enter-in-Union.ensures w c.at-here.ensures.here))
+    (rw c.at-here.ensures.node at c.enter-in-Union.ensures)
 
 pub returns-in-Firm : goal.returns-in-Firm
 returns-in-Firm g c =
@@ -34,7 +34,7 @@ returns-then-is_final g c =
     let h = here_there w c.args.root c.at-here.result c.at-here.ensures.node c.at-here.ensures.here c.is_none.result c.is_none.ensures c.if-is_none.false in
     let final = rw c.if-is_final.true at c.is_final.ensures in
     rw (cross-final w c.args.root h.0 h.1 c.in-Some.served c.in-Some.ensures (authority_of c.args.authority) c.args.request c.args.dir (names_in c.args.rest.now) c.in-Link.absolute c.in-Link.is final)
-    (rw c.at-here.ensures.node at (c.enter-then-is_final.ensures w c.at-here.ensures.here))
+    (rw c.at-here.ensures.node at c.enter-then-is_final.ensures)
 
 pub returns-else-is_final : goal.returns-else-is_final
 returns-else-is_final g c =

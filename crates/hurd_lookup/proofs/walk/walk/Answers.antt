@@ -43,4 +43,4 @@ pub returns : goal.returns
 returns g c =
     let w = world_of g.S.Server.meaning c.args.core.now in
     let q = authority_of c.args.authority in
-    rw (sym c.loop-name.invariant.0 ∙ ap (walk w q c.args.request c.loop-name.here.node) c.in_default.ensures) (c.arrive.ensures w q c.loop-name.invariant.1)
+    rw (sym c.loop-name.invariant.0 ∙ ap (walk w q c.args.request c.loop-name.here.node) c.in_default.ensures) c.arrive.ensures
