@@ -2,7 +2,7 @@
 use Rattle.std.proofs.Common.{◌≡◌, ℕ, Bool, true, false, if◌then◌else◌, ◌&&◌, List, [], ◌∷◌, Option, Some, None, refl, sym, ◌∙◌, ap, subst, inl, inr}
 use Rattle.std.specs.Prelude.{Result, Ok, codes, is_some, slice_get}
 use Rattle.std.specs.Option.{option_map}
-use Rattle.hurd_machine.proofs.Common.{Body, Crossing, EDIED, ENOENT, Errno, Exec, Firm, Header, IdSets, IsAmong, Name, OpenFlags, Plain, ServerInfo, World, active_at, asks, bare, body_at, bytes_eq, entry_of, header_at, info_at, is_dir, may, node_at, passive_of, targets_in, ways_of}
+use Rattle.hurd_machine.proofs.Common.{Body, Crossing, EDIED, ENOENT, Errno, Exec, Firm, Header, IdSets, IsAmong, Name, OpenFlags, Plain, ServerInfo, World, active_at, asks, bare, body_at, bytes_eq, entry_of, header_at, info_at, is_dir, may, node_at, passive_of, targets_in}
 use Rattle.hurd_creds.specs.Bits.{NOTRANS}
 use Rattle.hurd_trans_iface.specs.Answers.{leads_away}
 use Rattle.hurd_trans_iface.specs.Meaning.{root_of}

@@ -1,5 +1,5 @@
 -- One look along a path, as it is made.
-use Rattle.std.proofs.Common.{◌≡◌, ◌∙◌, ◌<◌, ◌-◌, ℕ, zero, suc, Bool, true, List, Option, Some, inl, inr, sym, ap, arith}
+use Rattle.std.proofs.Common.{◌≡◌, ◌∙◌, ◌<◌, ◌-◌, ℕ, zero, suc, Bool, true, Option, Some, inl, inr, sym, ap, arith}
 use Rattle.std.specs.Prelude.{Result, Ok, Err}
 use Rattle.hurd_machine.proofs.Common.{EDIED, ENAMETOOLONG, Errno, Header, IdSets, World, first, given, header_at, on}
 use Rattle.hurd_lookup.specs.declared.request.Request.{Request}
