@@ -15,7 +15,8 @@ use Rattle.hurd_machine.specs.declared.call.Setting.{Setting}
 use Rattle.hurd_lookup.specs.Lacking.{PlannedOr}
 use Rattle.hurd_lookup.specs.Lent.{lent, server_ids}
 use Rattle.hurd_lookup.proofs.LackingLaws.{weaker}
-use Rattle.hurd_fsys.specs.Aims.{FindsAims, aims_asks}
+use Rattle.hurd_lookup.specs.Legs.{MeetsOr}
+use Rattle.hurd_fsys.specs.Aims.{HasTargets, aims_asks}
 use Rattle.hurd_fsys.specs.Setting as spec
 use Rattle.hurd_fsys.specs.Setting.{SetLacks, box_aims, emptying, leaver, plan_set_translator, seat_asks, seat_on, seating, sets_nothing, setter_asks, setting, setting_where, storing}
 use Rattle.hurd_fsys.proofs.StoringLaws.{storing_back, storing_names, storing_sets, tree_sets}
@@ -111,7 +112,7 @@ module _ {S : Type 0} (mean : S → Meaning) (w : World) (t p : ℕ) (f : Settin
               subst (λ (r : Result Named Errno). IsOk (first r (seat_asks w f))) asked (subst (λ (r : Result (Option Name) Errno). IsOk r) at refl)
 
           -- its targets are not found
-          pub set_aimless : (e : Errno) → FindsAims {B = List Name} m (λ ns. ns) (aims_asks ENXIO w (lent n.right.ids n.header.owner) m) (Err e) → IsPlanned (Err e) w
+          pub set_aimless : (e : Errno) → MeetsOr {B = List Name} (HasTargets m) (λ ns. ns) (aims_asks ENXIO w (lent n.right.ids n.header.owner) m) (Err e) → IsPlanned (Err e) w
           set_aimless e (inl refused) = brought (Err e) w (asked-refused w (box_aims w n (Some m)) (spec.seated w t n f words (Some m) old) tells e refused)
           set_aimless e (inr lacks) = (refl, inr (lacks.0, inr (subst (λ (b : Option Meaning). SetLacks w t p f b) (sym (ap (option_map mean) some)) (lacks.1, box_may_come))))
 

@@ -1,8 +1,8 @@
 -- At which nodes a server is to aim that comes.
-use Rattle.std.specs.Prelude.{◌≡◌, ◌≢◌, ◌⊎◌, ◌&&◌, Bool, true, false, List, [], ◌∷◌, Option, Some, None, Result, Ok, Err}
+use Rattle.std.specs.Prelude.{◌≡◌, ◌≢◌, ◌&&◌, Bool, true, false, List, [], ◌∷◌, Option, Some, None, Result, Ok, Err}
 use Rattle.hurd_creds.specs.declared.name.Name.{Name}
 use Rattle.hurd_creds.specs.declared.errno.Errno.{Errno}
-use Rattle.hurd_creds.specs.declared.errno.Errno.TheVariants.{ENOMEM, ENOTDIR}
+use Rattle.hurd_creds.specs.declared.errno.Errno.TheVariants.{ENOTDIR}
 use Rattle.hurd_creds.specs.Access.{IdSets}
 use Rattle.hurd_trans_iface.specs.Nodes.{Header, is_dir}
 use Rattle.hurd_trans_iface.specs.Meaning.{Meaning, root_of, targets_of}
@@ -36,8 +36,3 @@ aims_asks asleep w ids m =
 -- there are targets to be found
 abbrev pub HasTargets : Meaning → Type 0
 HasTargets m = targets_of m.kind m.text ≢ []
-
--- the answer, or want of memory, where there are targets to be found
-abbrev pub FindsAims : {B : Type 0} → Meaning → (B → List Name) → Result (List Name) Errno → Result B Errno → Type 0
-FindsAims m of wanted (Ok b) = wanted ≡ Ok (of b)
-FindsAims m of wanted (Err e) = (wanted ≡ Err e) ⊎ ((e ≡ ENOMEM) × HasTargets m)

@@ -2,7 +2,8 @@
 ghost use Rattle.std.specs.Prelude.{◌≡◌};
 ghost use Rattle.hurd_core.specs.Core.{world_of};
 ghost use Rattle.hurd_lookup.specs.Lent.{lent};
-ghost use Rattle.hurd_fsys.specs.Aims.{FindsAims, aims_asks, are_dirs, fits};
+ghost use Rattle.hurd_lookup.specs.Legs.{MeetsOr};
+ghost use Rattle.hurd_fsys.specs.Aims.{HasTargets, aims_asks, are_dirs, fits};
 
 use hurd_core::Core;
 use hurd_creds::{Errno, Ids, NodeName};
@@ -47,7 +48,7 @@ pub(crate) fn aims<S: Server>(
     asleep: Errno,
 ) -> Result<Vec<NodeName>, Errno>
     ensures { let m = S.meaning server.now in
-        FindsAims m (λ nodes. nodes.items) (aims_asks asleep (world_of S.meaning core.now) (lent ids.now owner) m) result }
+        MeetsOr (HasTargets m) (λ nodes. nodes.items) (aims_asks asleep (world_of S.meaning core.now) (lent ids.now owner) m) result }
 {
     let paths = server.targets(alloc)?;
     let own = lent(alloc, ids, owner)?;

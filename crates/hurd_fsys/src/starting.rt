@@ -9,7 +9,8 @@ ghost use Rattle.hurd_machine.specs.declared.call.Reply.TheVariants.{Done};
 ghost use Rattle.hurd_machine.specs.World.{words_at};
 ghost use Rattle.hurd_core.specs.Core.{without_box, world_of};
 ghost use Rattle.hurd_core.specs.PortNode.{or_no_words};
-ghost use Rattle.hurd_fsys.specs.Aims.{FindsAims};
+ghost use Rattle.hurd_lookup.specs.Legs.{MeetsOr};
+ghost use Rattle.hurd_fsys.specs.Aims.{HasTargets};
 ghost use Rattle.hurd_lookup.specs.Lacking.{TriedOr};
 ghost use Rattle.hurd_fsys.specs.Starting.{StartFinds, StartLacks, header_told, plan_start_failed, plan_startup, same_words, start_aims, waiting_asks};
 
@@ -105,7 +106,7 @@ fn start_aims<S: Server>(
     server: &S,
 ) -> Result<Vec<NodeName>, Errno>
     ensures { let m = S.meaning server.now in
-        FindsAims m (λ nodes. nodes.items) (start_aims (world_of S.meaning core.now) task.0 m owner) result }
+        MeetsOr (HasTargets m) (λ nodes. nodes.items) (start_aims (world_of S.meaning core.now) task.0 m owner) result }
 {
     let ids = core.ids(task)?;
     aims(core, alloc, ids, owner, server, Errno::EBUSY)

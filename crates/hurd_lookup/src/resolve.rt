@@ -4,7 +4,7 @@ ghost use Rattle.hurd_ports.specs.Limits.{most_parents};
 ghost use Rattle.hurd_core.specs.Core.{world_of};
 ghost use Rattle.hurd_lookup.specs.Ends.{CanEnd, authority_of, name_of, outcome_of, port_by, way_of};
 ghost use Rattle.hurd_lookup.specs.Resolve.{from_top, landed, path_end, leg_asks, leg_at, resolve, resolve_all};
-ghost use Rattle.hurd_lookup.specs.Legs.{FindsLanding, Leads, OrLacks, leg_of};
+ghost use Rattle.hurd_lookup.specs.Legs.{FindsLanding, Leads, MeetsOr, leg_of};
 
 use crate::authority::{Authority, NewPort};
 use crate::end::Outcome;
@@ -53,7 +53,7 @@ pub(crate) enum Looked {
 /// Errors, in order: `ENOENT` it is no such path, `ENOMEM`.
 #[tactic(auto, unfolding(hurd_machine::specs::Plan::given))]
 fn from_top(alloc: Global, path: &[u8]) -> Result<Leg, Errno>
-    ensures { OrLacks leg_of (from_top path.now) result }
+    ensures { MeetsOr (Unit {0}) leg_of (from_top path.now) result }
 {
     if !is_absolute(path) {
         return Err(Errno::ENOENT);
@@ -76,7 +76,7 @@ fn onward<S: Server>(
 ) -> Result<Leg, Errno>
     requires { IfSome (way_of retry.onward) (λ way. length (authority_of authority).ways < most_parents) }
     ensures { let w = world_of S.meaning core.now in
-        OrLacks leg_of (leg_at (name_of w retry.entry) (port_by (authority_of authority.entry) retry.entry.onward)) result }
+        MeetsOr (Unit {0}) leg_of (leg_at (name_of w retry.entry) (port_by (authority_of authority.entry) retry.entry.onward)) result }
 {
     let name = retry.name(core, alloc)?;
     match retry.onward.port(alloc, authority)? {
@@ -175,7 +175,7 @@ fn resolve<S: Server>(
     path: &[u8],
     asleep: Errno,
 ) -> Result<NodeName, Errno>
-    ensures { OrLacks (λ n. n) (resolve asleep (world_of S.meaning core.now) ids.now path.now) result }
+    ensures { MeetsOr (Unit {0}) (λ n. n) (resolve asleep (world_of S.meaning core.now) ids.now path.now) result }
 {
     match path_end(core, alloc, ids, path)? {
         Landing::Lands(node) => Ok(node),
@@ -202,7 +202,7 @@ pub fn resolve_all<S: Server>(
     paths: &[Bytes],
     asleep: Errno,
 ) -> Result<Vec<NodeName>, Errno>
-    ensures found { OrLacks (λ nodes. nodes.items) (resolve_all asleep (world_of S.meaning core.now) ids.now paths.now) result }
+    ensures found { MeetsOr (Unit {0}) (λ nodes. nodes.items) (resolve_all asleep (world_of S.meaning core.now) ids.now paths.now) result }
     ensures nothing { paths.now ≡ [] → IsOk result }
 {
     match paths {
