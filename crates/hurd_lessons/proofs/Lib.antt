@@ -4,6 +4,5 @@ pub mod SeenLaws
 pub mod TaughtLaws
 pub mod OneLesson
 pub mod EntryLaws
-pub mod SeatLaws
 pub mod InSentences
 pub mod NothingLaws

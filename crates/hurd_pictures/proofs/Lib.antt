@@ -6,6 +6,5 @@ pub mod SearchLaws
 pub mod MarkLaws
 pub mod PlainLaws
 pub mod PictureLaws
-pub mod SeatLaws
 pub mod BoxLaws
 pub mod StubLaws

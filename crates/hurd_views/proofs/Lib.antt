@@ -5,3 +5,4 @@ pub mod ToldLaws
 pub mod OneView
 pub mod StayLaws
 pub mod TellLaws
+pub mod SeatLaws

@@ -1,10 +1,15 @@
-use Rattle.hurd_lessons.proofs.SeatLaws.{seats_here, seats_past}
+use Rattle.std.proofs.Common.{refl}
+use Rattle.hurd_lessons.specs.Seen.{seat_line, seat_lines}
+use Rattle.hurd_views.proofs.SeatLaws.{seats_here, seats_past}
 use Rattle.hurd_lessons.proofs.seen_tasks.add_seats.Goals as goal
 
 pub returns-in_default : goal.returns-in_default
-returns-in_default c = seats_past c.args.who.now c.args.view.now c.args.tasks.now c.args.rows.now c.loop-i.i c.loop-i.text.items _ c.in_default.ensures.lookup.3 c.loop-i.invariant
+returns-in_default c =
+    let told = seat_lines c.args.who.now c.args.view.now in
+    seats_past (seat_line c.args.who.now c.args.view.now) told refl (λ t us. refl) c.args.tasks.now c.args.rows.now c.loop-i.i c.loop-i.text.items _ c.in_default.ensures.lookup.3 c.loop-i.invariant
 
 pub loop-i-preserved : goal.loop-i-preserved
 loop-i-preserved c =
-    seats_here c.args.who.now c.args.view.now c.args.tasks.now c.args.rows.now c.loop-i.i _ c.in-Some.row.now c.loop-i.text.items _ _ c.loop-i-test.true c.in-Some.ensures.lookup.3.0
-    c.in-Some.ensures.lookup.1 c.in_ok-add_seat.ensures c.loop-i.invariant
+    let told = seat_lines c.args.who.now c.args.view.now in
+    seats_here (seat_line c.args.who.now c.args.view.now) told (λ t x ts xs. refl) c.args.tasks.now c.args.rows.now c.loop-i.i _ c.in-Some.row.now c.loop-i.text.items _ _ c.loop-i-test.true
+    c.in-Some.ensures.lookup.3.0 c.in-Some.ensures.lookup.1 c.in_ok-add_seat.ensures c.loop-i.invariant
