@@ -1,5 +1,5 @@
 -- The bytes of a word.
-use Rattle.std.proofs.Common.{ℕ, ◌≡◌, ◌≢◌, ◌++◌, ◌∷◌, [], List, Option, Some, None, refl, sym, ◌∙◌, ap}
+use Rattle.std.proofs.Common.{ℕ, ◌≡◌, ◌≢◌, ◌⊎◌, inl, inr, ◌++◌, ◌∷◌, [], List, Option, Some, None, refl, sym, ◌∙◌, ap}
 use Rattle.std.proofs.lemmas.Bool.{eq-eqb, ne_eqb}
 use Rattle.hurd_words.specs.Reading.{behind}
 use Rattle.hurd_words.specs.Words.{escape_code, onto}
@@ -63,7 +63,8 @@ pub ends_plain : bytes_after Plain [] ≡ Some []
 unfolding bytes_after
 ends_plain = refl
 
-pub left_open : (e : Escape) → e ≢ Plain → bytes_after e [] ≡ None
+pub left_open : (e : Escape) → (e ≡ Begun) ⊎ ((e ≡ Hex) ⊎ ((high : ℕ) × (e ≡ Half high))) → bytes_after e [] ≡ None
 unfolding bytes_after
-left_open Plain other = absurd (other refl)
-left_open _ other = refl
+left_open _ (inl is) = rw is refl
+left_open _ (inr (inl is)) = rw is refl
+left_open _ (inr (inr (high, is))) = rw is refl

@@ -62,7 +62,7 @@ fn unescaped(alloc: Global, word: &[u8]) -> Result<Bytes, ReadFault>
     }
     match escape {
         Escape::Plain => Ok(Bytes::new(bytes)),
-        _ => Err(ReadFault::Bad),
+        Escape::Begun | Escape::Hex | Escape::Half(_) => Err(ReadFault::Bad),
     }
 }
 

@@ -1,18 +1,11 @@
 //! The words of a line.
-ghost use Rattle.std.specs.Prelude.{◌≡◌, ◌==◌, bytes_eq, ◌<◌, ◌⊎◌, ◌∷◌, ◌++◌, [], ℕ, List, false, true, None, IfErr, IfOk, IfSome, OnOk, map, string_bytes};
+ghost use Rattle.std.specs.Prelude.{◌≡◌, ◌==◌, ◌<◌, ◌⊎◌, ◌∷◌, ◌++◌, [], ℕ, List, false, true, None, IfErr, IfOk, IfSome, OnOk, map, string_bytes};
 ghost use Rattle.std.specs.List.{slice_split};
 ghost use Rattle.hurd_words.specs.Reading.{Reads, Refuses, RefusesByte, Takes, TakesByte, behind, good_word, good_words};
 ghost use Rattle.hurd_words.specs.Words.{escape_code, has_hidden_byte, is_hidden, text_after, text_of};
 
 use crate::fault::ReadFault;
 use std::alloc::{AllocError, Global};
-
-/// Whether a text is this word.
-pub fn is(text: &str, word: &str) -> bool
-    ensures { result ≡ bytes_eq text.now word.now }
-{
-    text == word
-}
 
 /// The parts between bytes of one kind.
 pub fn pieces<'a>(alloc: Global, bytes: &'a [u8], at: u8) -> Result<Vec<&'a [u8]>, AllocError>

@@ -30,6 +30,6 @@ pub returns-in-Plain : goal.returns-in-Plain
 returns-in-Plain c =
     word_whole bytes_after _ _ _ _ _ ends_plain (sym c.has_hidden_byte.ensures ∙ c.if-has_hidden_byte.false) c.loop-byte-test.false (rw c.in-Plain.is at c.loop-byte.invariant) ∙ ap Some (sym c.new.ensures)
 
-pub returns-in_default : goal.returns-in_default
-returns-in_default c =
-    word_open bytes_after _ _ _ _ _ (left_open _ c.in_default.not-Plain) (sym c.has_hidden_byte.ensures ∙ c.if-has_hidden_byte.false) c.loop-byte-test.false c.loop-byte.invariant
+pub returns-in-Begun : goal.returns-in-Begun
+returns-in-Begun c =
+    word_open bytes_after _ _ _ _ _ (left_open _ c.in-Begun.is) (sym c.has_hidden_byte.ensures ∙ c.if-has_hidden_byte.false) c.loop-byte-test.false c.loop-byte.invariant
