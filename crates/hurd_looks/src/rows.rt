@@ -10,12 +10,19 @@ use hurd_ports::Opened;
 use hurd_views::{BodyRow, EntryRow, NodeRow, OpenRow, Row, ServerRow};
 use std::alloc::AllocError;
 
+/// Whether attributes are the same. Takes no memory.
+fn same_attrs(attrs: &Attrs, other: &Attrs) -> bool
+    ensures { IsTrue result ↔ (attrs.now ≡ other.now) }
+{
+    *attrs == *other
+}
+
 /// Whether attributes are the same but for the parent. Takes no memory.
 fn same_but_parent(attrs: &Attrs, other: &Attrs) -> bool
     ensures { IsTrue result ↔ (with_parent other.now.parent attrs.now ≡ other.now) }
 {
     let parent = other.parent;
-    Attrs { parent, ..*attrs } == *other
+    same_attrs(&Attrs { parent, ..*attrs }, other)
 }
 
 impl Meet for Attrs {
