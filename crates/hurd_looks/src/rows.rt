@@ -7,22 +7,15 @@ use crate::meet::{Meet, meet_all};
 use crate::pairs::Pairs;
 use hurd_creds::{Attrs, Same};
 use hurd_ports::Opened;
-use hurd_views::{BodyRow, EntryRow, NodeRow, OpenRow, Row, ServerRow};
+use hurd_views::{BodyRow, EntryRow, NodeRow, OpenRow, Row, ServerRow, same_attr};
 use std::alloc::AllocError;
-
-/// Whether attributes are the same. Takes no memory.
-fn same_attrs(attrs: &Attrs, other: &Attrs) -> bool
-    ensures { IsTrue result ↔ (attrs.now ≡ other.now) }
-{
-    *attrs == *other
-}
 
 /// Whether attributes are the same but for the parent. Takes no memory.
 fn same_but_parent(attrs: &Attrs, other: &Attrs) -> bool
     ensures { IsTrue result ↔ (with_parent other.now.parent attrs.now ≡ other.now) }
 {
     let parent = other.parent;
-    same_attrs(&Attrs { parent, ..*attrs }, other)
+    same_attr(&Attrs { parent, ..*attrs }, other)
 }
 
 impl Meet for Attrs {

@@ -197,7 +197,7 @@ fn same_attrs(attrs: &Option<Attrs>, other: &Option<Attrs>) -> bool
 }
 
 /// Whether these are the same attributes.
-fn same_attr(attrs: &Attrs, other: &Attrs) -> bool
+pub fn same_attr(attrs: &Attrs, other: &Attrs) -> bool
     ensures { IsTrue result ↔ (attrs.now ≡ other.now) }
 {
     same_access(attrs, other) && same_place(attrs, other) && same_marks(attrs, other)
