@@ -32,12 +32,7 @@ pub fn add(counts: &mut Counts, name: Name, more: u128)
     ensures more { (n : Name) → counted counts.new.entries n ≡ counted counts.old.entries n + if_so (same_name n name) more }
     ensures room { spare counts.old ≤ spare counts.new + 1 }
 {
-    match counts.get_mut(&name) {
-        Some(count) => *count += more,
-        None => {
-            counts.insert(name, more).unwrap();
-        }
-    }
+    *counts.entry(name).unwrap().or_insert(0) += more;
 }
 
 /// Counts the name so many times less, and keeps nothing of it if it is counted no more. Takes no room.

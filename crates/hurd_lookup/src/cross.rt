@@ -24,7 +24,7 @@ use hurd_trans_iface::{Crossing, Server};
 #[derive(Clone, Copy, Debug)]
 pub(crate) enum Crossed {
     /// Nothing: it goes on at the node.
-    Nothing(Here),
+    Nothing,
     /// The server that is active there, by its root.
     Active(NodeName),
     /// A translator that waits there to be started.
@@ -40,18 +40,20 @@ fn root_by<S: Server>(core: &Core<S>, server: Option<ServerName>) -> Option<Node
 }
 
 /// What is to be crossed at a node, before what is left of the path: nothing at the last node with `NOTRANS`; else the server that is active there, or the
-/// translator that waits there, if one does.
+/// translator that waits there, if one does. The node is `here` then.
 #[inline(always)]
 pub(crate) fn to_cross<S: Server>(
     core: &Core<S>,
     request: Request,
     node: NodeName,
     rest: &[u8],
+    here: &mut Here,
 ) -> Crossed
-    ensures { let w = world_of S.meaning core.now in Crosses w node (to_cross w request node (names_in rest.now)) result }
+    ensures { let w = world_of S.meaning core.now in Crosses w node (to_cross w request node (names_in rest.now)) here.new result }
 {
     let is_held = is_last(rest) && request.flags.asks(OpenFlags::NOTRANS);
-    let (active, here) = Here::met(core, node);
+    let (active, met) = Here::met(core, node);
+    *here = met;
     if !is_held {
         if let Some(root) = root_by(core, active) {
             return Crossed::Active(root);
@@ -60,7 +62,7 @@ pub(crate) fn to_cross<S: Server>(
     if !is_held && active.is_none() && here.has_words() {
         Crossed::Waiting
     } else {
-        Crossed::Nothing(here)
+        Crossed::Nothing
     }
 }
 

@@ -37,13 +37,6 @@ pub(crate) enum Next {
     Absent,
 }
 
-/// After one name: on at a node, or at the end.
-#[derive(Clone, Copy, Debug)]
-enum Step<'a> {
-    On(Here),
-    To(Outcome<'a>),
-}
-
 /// Whether a port came into a server's tree at this node.
 fn came_in_at(parents: &Parents, dir: NodeName) -> bool
     ensures { result ≡ came_in_at parents.now dir }
@@ -237,7 +230,7 @@ fn go_back<'a, S: Server>(
     }))
 }
 
-/// At the node of an entry: on, or across what is there: the server that is active on it, or the translator that waits to be started.
+/// At the node of an entry: on from there, or across what is there: the server that is active on it, or the translator that waits to be started.
 ///
 /// Errors, in order: `EEXIST` it is the last, and refused where it is there, those of `cross`.
 #[tactic(auto, unfolding(hurd_machine::specs::Plan::given))]
@@ -248,20 +241,21 @@ fn over<'a, S: Server>(
     dir: NodeName,
     node: NodeName,
     rest: &'a [u8],
-) -> Result<Step<'a>, Errno>
+    here: &mut Here,
+) -> Result<Option<Outcome<'a>>, Errno>
     ensures { let w = world_of S.meaning core.now in let q = authority_of authority.entry in let names = names_in rest.entry.now in
-        Goes w q (λ onward. over w q request dir node (to_cross w request node names) names (onward node)) result }
+        Goes w q (λ onward. over w q request dir node (to_cross w request node names) names (onward node)) here.new result }
 {
-    match to_cross(core, request, node, rest) {
-        Crossed::Nothing(here) => Ok(Step::On(here)),
+    match to_cross(core, request, node, rest, here) {
+        Crossed::Nothing => Ok(None),
         Crossed::Active(root) => {
             request.passes(rest)?;
             let outcome = cross(core, authority, request, dir, root, rest)?;
-            Ok(Step::To(outcome))
+            Ok(Some(outcome))
         }
         Crossed::Waiting => {
             request.passes(rest)?;
-            Ok(Step::To(Outcome::Starts(node)))
+            Ok(Some(Outcome::Starts(node)))
         }
     }
 }
@@ -278,7 +272,7 @@ fn go_into<'a>(request: Request, branch: NodeName, path: &'a [u8]) -> Outcome<'a
     })
 }
 
-/// From a directory by the first name of a path, behind which its rest follows.
+/// From a directory by the first name of a path, behind which its rest follows: on at the node that is `here` then, or to an end.
 ///
 /// Errors, in order: those of `step_asked`, those of `over`, of `go_back`, or of `miss`.
 #[tactic(auto, unfolding(hurd_machine::specs::Plan::first))]
@@ -287,25 +281,28 @@ fn stepped<'a, S: Server>(
     core: &Core<S>,
     authority: Authority,
     request: Request,
-    here: Here,
+    here: &mut Here,
     path: &'a [u8],
     name: &'a [u8],
     rest: &'a [u8],
-) -> Result<Step<'a>, Errno>
+) -> Result<Option<Outcome<'a>>, Errno>
     requires names { names_in path.now ≡ name.now ∷ names_in rest.now }
-    requires here { IsHere (world_of S.meaning core.now) here }
-    ensures { let w = world_of S.meaning core.now in let q = authority_of authority.entry in
-        Goes w q (λ onward. first (step_asks w q here.node name.entry.now) (stepped w q request here.node name.entry.now (names_in rest.entry.now) onward)) result }
+    requires here { IsHere (world_of S.meaning core.now) here.old }
+    ensures { let w = world_of S.meaning core.now in let q = authority_of authority.entry in let dir = here.old.node in
+        Goes w q (λ onward. first (step_asks w q dir name.entry.now) (stepped w q request dir name.entry.now (names_in rest.entry.now) onward)) here.new result }
 {
     let dir = here.node;
-    match step_asked(core, authority, &here, name)? {
-        Next::There(node) => Ok(Step::On(Here::at(core, node))),
-        Next::Entry(node) => over(core, authority, request, dir, node, rest),
-        Next::Branch(branch) => Ok(Step::To(go_into(request, branch, path))),
-        Next::Back => Ok(Step::To(go_back(core, authority, request, rest)?)),
+    match step_asked(core, authority, here, name)? {
+        Next::There(node) => {
+            *here = Here::at(core, node);
+            Ok(None)
+        }
+        Next::Entry(node) => over(core, authority, request, dir, node, rest, here),
+        Next::Branch(branch) => Ok(Some(go_into(request, branch, path))),
+        Next::Back => Ok(Some(go_back(core, authority, request, rest)?)),
         Next::Absent => {
-            let outcome = miss(core, authority, request, &here, name, is_last(rest))?;
-            Ok(Step::To(outcome))
+            let outcome = miss(core, authority, request, here, name, is_last(rest))?;
+            Ok(Some(outcome))
         }
     }
 }
@@ -328,9 +325,8 @@ pub(crate) fn walk<'a, S: Server>(
     let mut here = start;
     let mut rest = path;
     while let Some((name, after)) = first_name(rest) {
-        match stepped(core, authority, request, here, rest, name, after)? {
-            Step::On(node) => here = node,
-            Step::To(outcome) => return Ok(outcome),
+        if let Some(outcome) = stepped(core, authority, request, &mut here, rest, name, after)? {
+            return Ok(outcome);
         }
         rest = after;
     }

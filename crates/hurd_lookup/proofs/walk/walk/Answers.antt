@@ -17,11 +17,11 @@ returns-in_err-node g c =
     ∙ ap (walk w q c.args.request c.loop-name.here.node) c.in-Some.ensures.0
     ∙ c.in_err-node.ensures (λ n. walk w q c.args.request n (names_in c.in-Some.after.now)))
 
-pub returns-in-To : goal.returns-in-To
-returns-in-To g c =
+pub returns-in-Some : goal.returns-in-Some
+returns-in-Some g c =
     let w = world_of g.S.Server.meaning c.args.core.now in
     let q = authority_of c.args.authority in
-    let goes = rw c.in-To.is at c.in_ok-node.ensures in (
+    let goes = rw c.in-Some.is at c.in_ok-node.ensures in (
       sym c.loop-name.invariant.0
           ∙ ap (walk w q c.args.request c.loop-name.here.node) c.in-Some.ensures.0
           ∙ goes.0 (λ n. walk w q c.args.request n (names_in c.in-Some.after.now)),
