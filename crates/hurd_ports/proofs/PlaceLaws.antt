@@ -74,9 +74,3 @@ without-placed p (x ∷ ps) i h = elim (position-cases (numbered_so p) x ps i h)
   | inl (t, e) ↦ rw (t, e) refl
   | inr (f, j, is, e) ↦ rw (f, e) (ap (λ (r : List Port). x ∷ r) (without-placed p ps j is))
 ]
-
-pub without-absent : (p : ℕ) (ps : List Port) → position (numbered_so p) ps ≡ None → ports_without p ps ≡ ps
-without-absent p [] h = refl
-without-absent p (x ∷ ps) h =
-    let both = position-none (numbered_so p) x ps h in
-    rw both.0 (ap (λ (r : List Port). x ∷ r) (without-absent p ps both.1))

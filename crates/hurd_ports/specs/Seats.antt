@@ -1,5 +1,6 @@
 -- The tables as they stand in the code.
-use Rattle.std.specs.Prelude.{ℕ, ◌<◌, List, map, Option, Some, None, IsSomeAnd, slice_get, vec_len, vec_capacity}
+use Rattle.std.specs.Prelude.{ℕ, ◌<◌, ◌==◌, List, map, Option, Some, None, IsSomeAnd, slice_get, vec_len, vec_capacity}
+use Rattle.std.specs.List.{position}
 use Rattle.std.specs.Option.{option_map}
 use Rattle.std.specs.Global.{Vec}
 use Rattle.hurd_creds.specs.declared.name.TaskId.{TaskId}
@@ -33,6 +34,10 @@ HasSpare v = vec_len v < vec_capacity v
 -- the numbers of the ports rise
 abbrev pub AreInOrder : List Port → Type 0
 AreInOrder ps = (next : ℕ) × NumbersRise 0 next ps
+
+-- the index of the port of this number
+abbrev pub place_in : ℕ → List Port → Option ℕ
+place_in number ps = position (λ p. number == p.number) ps
 
 -- for the task that is ready, there is room for an open, for what a right names and for a port; the number says for how many opens
 abbrev pub IsReady : ℕ → Book → List TaskSeat → Option TaskId → Type 0

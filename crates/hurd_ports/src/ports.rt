@@ -494,13 +494,14 @@ impl Ports {
         let Some(seat) = self.tasks.get(task.0 as usize) else {
             return Err(Errno::ESRCH);
         };
-        let Some(right) = seat.find(port) else {
+        let Some(index) = seat.place(port) else {
             return Err(Errno::EBADF);
         };
+        let right = &seat.ports[index].right;
         let open_name = right.open_name();
         self.book.subtract(right);
         self.ready = None;
-        self.tasks[task.0 as usize].remove(port);
+        self.tasks[task.0 as usize].remove(index);
         settle(&mut self.opens, &self.book, open_name);
         Ok(())
     }

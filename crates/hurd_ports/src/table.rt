@@ -1,10 +1,9 @@
 //! Rights, opens, and the tables of tasks.
-ghost use Rattle.std.specs.Prelude.{◌≡◌, ◌==◌, ◌+◌, ◌<◌, Ok, length, IfOk, IfSome, OnOk, option_copied};
-ghost use Rattle.std.specs.List.{position};
+ghost use Rattle.std.specs.Prelude.{◌≡◌, ℕ, ◌+◌, ◌<◌, Ok, Some, length, IfOk, IfSome, OnOk, option_copied};
 ghost use Rattle.hurd_creds.specs.Memory.{Steps};
 ghost use Rattle.hurd_ports.specs.Tables.{can_name, fresh, has_room, open_of, right_in};
 ghost use Rattle.hurd_ports.specs.Steps.{named, received, with_ids, with_ids_for, with_pending, with_port, with_sent, without_port};
-ghost use Rattle.hurd_ports.specs.Seats.{AreInOrder, HasSpare, seat_task};
+ghost use Rattle.hurd_ports.specs.Seats.{AreInOrder, HasSpare, place_in, seat_task};
 
 use crate::parents::Parents;
 use hurd_creds::{Errno, Ids, Name, NodeName, OpenFlags, OpenName, ServerName, TaskId};
@@ -219,14 +218,24 @@ impl TaskSeat {
         self.pending = pending;
     }
 
-    /// Takes out the port of this number, if it is there.
-    pub(crate) fn remove(&mut self, number: u64)
-        requires { AreInOrder self.old.ports.items }
-        ensures { seat_task self.new ≡ without_port number (seat_task self.old) }
+    /// The index of the port of this number, if it is there: a binary search.
+    #[inline(always)]
+    pub(crate) fn place(&self, number: u64) -> Option<usize>
+        requires { AreInOrder self.now.ports.items }
+        ensures is { result ≡ place_in number self.now.ports.items }
+        ensures below { IfSome result (λ i. i < length self.now.ports.items) }
     {
-        if let Some(i) = place(&self.ports, number) {
-            self.ports.remove(i);
-        }
+        self.ports
+            .binary_search_by_key(&number, |port| port.number)
+            .ok()
+    }
+
+    /// Takes out the port at this index. No search.
+    pub(crate) fn remove(&mut self, index: usize)
+        requires { index < length self.old.ports.items }
+        ensures { (number : ℕ) → place_in number self.old.ports.items ≡ Some index → seat_task self.new ≡ without_port number (seat_task self.old) }
+    {
+        self.ports.remove(index);
     }
 
     /// The right under this number.
@@ -234,18 +243,9 @@ impl TaskSeat {
         requires { AreInOrder self.now.ports.items }
         ensures { option_copied result ≡ right_in number self.now.ports.items }
     {
-        match place(&self.ports, number) {
+        match self.place(number) {
             Some(i) => Some(&self.ports[i].right),
             None => None,
         }
     }
-}
-
-/// The index of the port of this number, by a binary search.
-fn place(ports: &[Port], number: u64) -> Option<usize>
-    requires { AreInOrder ports.now }
-    ensures is { result ≡ position (λ p. number == p.number) ports.now }
-    ensures below { IfSome result (λ i. i < length ports.now) }
-{
-    ports.binary_search_by_key(&number, |port| port.number).ok()
 }

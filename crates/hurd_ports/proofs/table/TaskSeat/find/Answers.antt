@@ -5,10 +5,7 @@ use Rattle.hurd_ports.proofs.table.TaskSeat.find.Goals as goal
 
 pub returns-in-Some : goal.returns-in-Some
 returns-in-Some c =
-    let at = rw c.deref.ensures.value at c.in-Some.ensures.is in
-    ap (λ (p : Port). Some p.right) c.index.ensures ∙ sym (right-placed c.args.number c.args.self.now.ports.items c.in-Some.i (sym at) c.index.result.now)
+    ap (λ (p : Port). Some p.right) c.index.ensures ∙ sym (right-placed c.args.number c.args.self.now.ports.items c.in-Some.i (sym c.in-Some.ensures.is) c.index.result.now)
 
 pub returns-in-None : goal.returns-in-None
-returns-in-None c =
-    let none = rw c.deref.ensures.value at c.in-None.ensures.is in
-    sym (right-absent c.args.number c.args.self.now.ports.items (sym none))
+returns-in-None c = sym (right-absent c.args.number c.args.self.now.ports.items (sym c.in-None.ensures.is))
