@@ -54,7 +54,7 @@ ways_most p (w ∷ ws) = omega (arith, ways_most p ws, one_at_most (p w.at), one
 
 -- whether a right names something is told by how often it does
 
-name_turned : (a b : Name) → same_name a b ≡ same_name b a
+pub name_turned : (a b : Name) → same_name a b ≡ same_name b a
 name_turned a b = elim (same_or_apart a b) [
   | inl e ↦ rw e refl
   | inr apart ↦ same_name-apart a b apart ∙ sym (same_name-apart b a (λ e. apart (sym e)))

@@ -12,3 +12,4 @@ pub mod CountLaws
 pub mod FillLaws
 pub mod SettleLaws
 pub mod EndLaws
+pub mod LowerLaws

@@ -1,6 +1,7 @@
 -- A port that goes, with its open where no other right names that.
 use Rattle.std.proofs.Common.{◌≡◌, ◌+◌, ◌≤◌, arith, ◌≢◌, ◌⊎◌, inl, inr, ℕ, List, [], ◌∷◌, Bool, true, false, if◌then◌else◌, refl, ap, sym, ◌∙◌}
 use Rattle.std.specs.Prelude.{Option, Some, None, Result, Ok, Err, nat_lt, slice_get, slice_set}
+use Rattle.std.specs.Option.{option_map_or}
 use Rattle.std.specs.FinMap as fin
 use Rattle.hurd_creds.specs.declared.name.Name.{Name}
 use Rattle.hurd_creds.specs.declared.errno.Errno.{Errno}
@@ -14,7 +15,7 @@ use Rattle.hurd_ports.specs.Steps.{without_port, settled_by, deallocate_step, dr
 use Rattle.hurd_ports.specs.Sound.{IsSound}
 use Rattle.hurd_ports.specs.declared.book.Book.{Book}
 use Rattle.hurd_creds.specs.Weights.{weigh_list}
-use Rattle.hurd_ports.specs.Counts.{AreCounted, Opens, Sort, count_of, is_counted, naming}
+use Rattle.hurd_ports.specs.Counts.{AreCounted, Opens, Sort, count_of, is_counted, naming, unheld}
 use Rattle.hurd_ports.specs.Seats.{seat_task, tasks_of, state_of}
 use Rattle.hurd_ports.proofs.CountLaws.{counted-changed, held-counted}
 use Rattle.hurd_ports.proofs.WeightLaws.{weigh_at, weigh_dropped}
@@ -39,6 +40,15 @@ settled_had held (Some n) m q w is = go (held n) refl is
 settled-alike : (f g : Name → Bool) (o : Option Name) (m : OpenMap) → ((q : Name) → f q ≡ g q) → settled_by f o m ≡ settled_by g o m
 settled-alike f g None m same = refl
 settled-alike f g (Some n) m same = ap (λ (b : Bool). if b then m else fin.remove m n) (same n)
+
+-- without what goes, what is held stays
+settled-unheld : (held : Name → Bool) (o : Option Name) (m : OpenMap) → option_map_or (λ n. fin.remove m n) (unheld held o) m ≡ settled_by held o m
+settled-unheld held None m = refl
+settled-unheld held (Some n) m = go (held n)
+  where
+    go : (b : Bool) → option_map_or (λ n. fin.remove m n) (if b then None else Some n) m ≡ (if b then m else fin.remove m n)
+    go true = refl
+    go false = refl
 
 -- the tables are sound without a port, and without its open where no right names that
 sound-dropped : (h : PortState) (t p : ℕ) (x : Task) (r : Right) → IsSound h → slice_get h.tasks t ≡ Some x → right_in p x.ports ≡ Some r
@@ -73,7 +83,7 @@ module _ (b : Book) (ss : List TaskSeat) (t p : ℕ) (s : TaskSeat) (r : Right) 
 
   -- where its seat lost it, and its open was looked at
   pub deallocated : (os news : OpenMap) (new : TaskSeat) → IsSound (state_of os ss) → seat_task new ≡ without_port p (seat_task s) → AreCounted b (tasks_of (slice_set ss t new))
-      → news ≡ settled_by (is_counted Opens b) (open_of r) os → Dropped (state_of os ss) (state_of news (slice_set ss t new)) t p
+      → news ≡ option_map_or (λ n. fin.remove os n) (unheld (is_counted Opens b) (open_of r)) os → Dropped (state_of os ss) (state_of news (slice_set ss t new)) t p
   deallocated os news new sound less counts opens =
       let h : PortState = state_of os ss in
       let x : Task = seat_task s in
@@ -81,7 +91,7 @@ module _ (b : Book) (ss : List TaskSeat) (t p : ℕ) (s : TaskSeat) (r : Right) 
       let ts : List Task = slice_set h.tasks t (without_port p x) in
       let tasks : tasks_of (slice_set ss t new) ≡ ts = seat-changed ss t new (without_port p x) less in
       let left : news ≡ settled_by (is_held ts) (open_of r) os =
-      opens ∙ settled-alike (is_counted Opens b) (is_held (tasks_of (slice_set ss t new))) (open_of r) os (λ q. ap (nat_lt 0) (counts.all Opens q) ∙ sym (held-counted (tasks_of (slice_set ss t new)) q))
+      opens ∙ settled-unheld (is_counted Opens b) (open_of r) os ∙ settled-alike (is_counted Opens b) (is_held (tasks_of (slice_set ss t new))) (open_of r) os (λ q. ap (nat_lt 0) (counts.all Opens q) ∙ sym (held-counted (tasks_of (slice_set ss t new)) q))
       ∙ ap (λ (us : List Task). settled_by (is_held us) (open_of r) os) tasks in
       let step : deallocate_step t p h ≡ (Ok tt, record { opens = settled_by (is_held ts) (open_of r) os; tasks = ts }) =
       ap (deallocate_at h t p) there ∙ ap (dropped h t p) right

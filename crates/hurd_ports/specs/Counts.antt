@@ -1,5 +1,5 @@
 -- What rights name, and how often it is counted.
-use Rattle.std.specs.Prelude.{◌≡◌, ℕ, ◌*◌, ◌-◌, ◌≤◌, Bool, List, [], ◌∷◌, length, nat_lt}
+use Rattle.std.specs.Prelude.{◌≡◌, ℕ, ◌*◌, ◌-◌, ◌≤◌, Bool, if◌then◌else◌, List, [], ◌∷◌, Option, Some, None, length, nat_lt}
 use Rattle.indexmap.specs.IndexMap.{spare}
 use Rattle.hurd_creds.specs.declared.name.Name.{Name}
 use Rattle.hurd_creds.specs.Names.{same_name}
@@ -59,6 +59,11 @@ count_of k n b = counted (entries_of k b) n
 -- whether it is counted at all
 abbrev pub is_counted : Sort → Book → Name → Bool
 is_counted k b n = nat_lt 0 (count_of k n b)
+
+-- the open that a right may have had, unless it is held
+abbrev pub unheld : (Name → Bool) → Option Name → Option Name
+unheld held None = None
+unheld held (Some o) = if held o then None else Some o
 
 -- for how many names more of a sort there is room in memory
 abbrev pub room_in : Sort → Book → ℕ

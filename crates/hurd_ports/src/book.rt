@@ -1,18 +1,18 @@
 //! How often rights name each open, node and server.
-ghost use Rattle.std.specs.Prelude.{◌≡◌, ◌≤◌, ◌+◌, ◌||◌, length, OnOk};
+ghost use Rattle.std.specs.Prelude.{◌≡◌, ◌≤◌, ◌<◌, ◌+◌, ◌||◌, if◌then◌else◌, Some, None, length, nat_lt, OnOk};
 ghost use Rattle.indexmap.specs.IndexMap.{spare};
 ghost use Rattle.hurd_creds.specs.Names.{same_name};
 ghost use Rattle.hurd_creds.specs.declared.name.Name.{Name};
 ghost use Rattle.hurd_ports.specs.Limits.{most_parents};
-ghost use Rattle.hurd_creds.specs.Weights.{count_list, weigh_list};
-ghost use Rattle.hurd_ports.specs.Tables.{start_of, ways_of};
+ghost use Rattle.hurd_creds.specs.Weights.{count_list, one_if, weigh_list};
+ghost use Rattle.hurd_ports.specs.Tables.{open_of, start_of, ways_of};
 ghost use Rattle.hurd_creds.specs.Counts.{counted};
-ghost use Rattle.hurd_ports.specs.Counts.{Besides, HasRoom, Opens, Servers, Sort, Uses, count_of, excess, is_counted, most_counted, naming};
+ghost use Rattle.hurd_ports.specs.Counts.{Besides, HasRoom, Opens, Servers, Sort, Uses, count_of, excess, is_counted, most_counted, naming, unheld};
 
 use crate::parents::{MOST_PARENTS, Parent};
 use crate::table::{PendingStart, Right};
 use hurd_creds::counts::{Counts, add, count, subtract};
-use hurd_creds::{NodeName, OpenName, ServerName};
+use hurd_creds::{Name, NodeName, OpenName, ServerName};
 use std::alloc::{AllocError, Global};
 
 /// What one right can name of nodes besides its own: two for each way.
@@ -70,20 +70,27 @@ impl Book {
         }
     }
 
-    /// Counts a right less.
+    /// Counts a right less; answers the open that it had, if no right names that any more.
     #[inline(always)]
-    pub(crate) fn subtract(&mut self, right: &Right)
+    pub(crate) fn subtract(&mut self, right: &Right) -> Option<OpenName>
         requires { (k : Sort) (n : Name) → naming k n right.now ≤ count_of k n self.old }
-        ensures { (k : Sort) (n : Name) → count_of k n self.new + naming k n right.now ≡ count_of k n self.old }
+        ensures less { (k : Sort) (n : Name) → count_of k n self.new + naming k n right.now ≡ count_of k n self.old }
+        ensures gone { result ≡ unheld (is_counted Opens self.new) (open_of right.now) }
     {
         match right {
             Right::Io(right) => {
-                subtract(&mut self.opens, right.open_name, 1);
-                subtract(&mut self.uses, right.node, 1);
+                lower(&mut self.uses, right.node);
                 subtract_ways(&mut self.besides, right.parents.as_slice());
+                lower(&mut self.opens, right.open_name)
             }
-            Right::Control(server) => subtract(&mut self.servers, *server, 1),
-            Right::Start(node) => subtract(&mut self.besides, *node, 1),
+            Right::Control(server) => {
+                lower(&mut self.servers, *server);
+                None
+            }
+            Right::Start(node) => {
+                lower(&mut self.besides, *node);
+                None
+            }
         }
     }
 
@@ -102,13 +109,6 @@ impl Book {
         ensures { result ≡ count_of Opens name self.now }
     {
         count(&self.opens, name)
-    }
-
-    /// Whether a right names the open.
-    pub(crate) fn names_open(&self, name: OpenName) -> bool
-        ensures { result ≡ is_counted Opens self.now name }
-    {
-        count(&self.opens, name) > 0
     }
 
     /// How many rights are to use the node.
@@ -130,6 +130,24 @@ impl Book {
         ensures { result ≡ is_counted Servers self.now name }
     {
         count(&self.servers, name) > 0
+    }
+}
+
+/// Counts the name once less, and keeps nothing of it if it is counted no more; then it answers it. One search.
+#[inline(always)]
+fn lower(counts: &mut Counts, name: Name) -> Option<Name>
+    requires { 0 < counted counts.old.entries name }
+    ensures less { (n : Name) → counted counts.new.entries n + one_if (same_name n name) ≡ counted counts.old.entries n }
+    ensures gone { result ≡ (if nat_lt 0 (counted counts.new.entries name) then None else Some name) }
+{
+    let (index, _, count) = counts.get_full(&name).unwrap();
+    if *count > 1 {
+        let (_, count) = counts.pair_mut(index);
+        *count -= 1;
+        None
+    } else {
+        counts.swap_remove_index(index);
+        Some(name)
     }
 }
 

@@ -1,6 +1,6 @@
 //! The tables of all tasks, and the opens.
 ghost use Rattle.std.specs.Prelude.{◌≡◌, ◌≤◌, ◌<◌, Bool, Some, None, Ok, Err, if◌then◌else◌, length, map, nat_lt, option_copied, slice_get, IfErr, IfOk, IsSomeAnd};
-ghost use Rattle.std.specs.Option.{option_map};
+ghost use Rattle.std.specs.Option.{option_map, option_map_or};
 ghost use Rattle.std.specs.FinMap as fin;
 ghost use Rattle.hurd_creds.specs.Bits.{READ, WRITE};
 ghost use Rattle.hurd_creds.specs.Limits.{most_tasks};
@@ -9,10 +9,8 @@ ghost use Rattle.hurd_creds.specs.declared.errno.Errno.{Errno};
 ghost use Rattle.hurd_ports.specs.Tables.{IsSettled, count_rights, ends, fresh, ids_at, io_right_of, is_controlled, is_named, lent, names_open, naming_of, pending_of, right_of, room_of, uses_node};
 ghost use Rattle.hurd_ports.specs.declared.table.Right.{Right};
 ghost use Rattle.hurd_ports.specs.Steps as step;
-ghost use Rattle.hurd_ports.specs.Counts as counts;
-ghost use Rattle.hurd_ports.specs.Counts.{is_counted, most_counted};
+ghost use Rattle.hurd_ports.specs.Counts.{most_counted};
 ghost use Rattle.hurd_ports.specs.Seats.{seat_task};
-ghost use Rattle.hurd_ports.specs.Steps.{settled_by};
 
 use crate::book::Book;
 use crate::opens::Opens;
@@ -47,14 +45,12 @@ impl Model for Ports {
     ghost invariant = { λ p. IsKept p.opens.all p.opens.room p.book p.tasks.items p.ready };
 }
 
-/// Takes out the open that a right had, if no right is counted that names it.
-fn settle(opens: &mut Opens, book: &Book, name: Option<OpenName>)
-    ensures { opens.new.all ≡ settled_by (is_counted counts.Opens book.now) name opens.old.all }
+/// Takes out the open that goes, if one does.
+fn settle(opens: &mut Opens, gone: Option<OpenName>)
+    ensures { opens.new.all ≡ option_map_or (λ name. fin.remove opens.old.all name) gone opens.old.all }
 {
-    if let Some(name) = name {
-        if !book.names_open(name) {
-            opens.remove(name);
-        }
+    if let Some(name) = gone {
+        opens.remove(name);
     }
 }
 
@@ -497,12 +493,10 @@ impl Ports {
         let Some(index) = seat.place(port) else {
             return Err(Errno::EBADF);
         };
-        let right = &seat.ports[index].right;
-        let open_name = right.open_name();
-        self.book.subtract(right);
+        let gone = self.book.subtract(&seat.ports[index].right);
         self.ready = None;
         self.tasks[task.0 as usize].remove(index);
-        settle(&mut self.opens, &self.book, open_name);
+        settle(&mut self.opens, gone);
         Ok(())
     }
 

@@ -1,7 +1,7 @@
 //! Rights, opens, and the tables of tasks.
 ghost use Rattle.std.specs.Prelude.{◌≡◌, ℕ, ◌+◌, ◌<◌, Ok, Some, length, IfOk, IfSome, OnOk, option_copied};
 ghost use Rattle.hurd_creds.specs.Memory.{Steps};
-ghost use Rattle.hurd_ports.specs.Tables.{can_name, fresh, has_room, open_of, right_in};
+ghost use Rattle.hurd_ports.specs.Tables.{can_name, fresh, has_room, right_in};
 ghost use Rattle.hurd_ports.specs.Steps.{named, received, with_ids, with_ids_for, with_pending, with_port, with_sent, without_port};
 ghost use Rattle.hurd_ports.specs.Seats.{AreInOrder, HasSpare, place_in, seat_task};
 
@@ -59,17 +59,6 @@ impl Right {
             Right::Io(right) => Ok(Right::Io(right.copied(alloc)?)),
             Right::Control(server) => Ok(Right::Control(*server)),
             Right::Start(node) => Ok(Right::Start(*node)),
-        }
-    }
-
-    /// The open, which a right to use a node has.
-    pub(crate) fn open_name(&self) -> Option<OpenName>
-        ensures { result ≡ open_of self.now }
-    {
-        match self {
-            Right::Io(right) => Some(right.open_name),
-            Right::Control(_) => None,
-            Right::Start(_) => None,
         }
     }
 }

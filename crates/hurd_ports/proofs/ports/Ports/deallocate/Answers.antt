@@ -31,8 +31,8 @@ returns-in_default-place-clause-answer c =
 found_right : (c : After-index) → right_in c.args.port c.in-Some.seat.now.ports.items ≡ Some c.index.result.now.right
 found_right c = right-placed c.args.port c.in-Some.seat.now.ports.items c.in-Some-place.index (sym c.in-Some-place.ensures.is) c.index.result.now ∙ sym (ap (λ (p : Port). Some p.right) c.index.ensures)
 
-pub subtract-requires : goal.subtract-requires
-subtract-requires c = right-counted _ _ c.args.task.0 c.args.port _ _ (found_seat (goal.at.subtract-requires c).In-Some) (found_right (goal.at.subtract-requires c).After-index) c.self.invariant.counted
+pub subtract-gone-requires : goal.subtract-gone-requires
+subtract-gone-requires c = right-counted _ _ c.args.task.0 c.args.port _ _ (found_seat (goal.at.subtract-gone-requires c).In-Some) (found_right (goal.at.subtract-gone-requires c).After-index) c.self.invariant.counted
 
 -- the seat that was read, and what is at the place
 at : (c : goal.After-settle) → slice_get c.self.inside.tasks.items c.args.task.0 ≡ Some c.index_mut.result.now
@@ -53,16 +53,16 @@ right c = rw (same c) (found_right (goal.at.returns-clause-answer c).After-index
 less : (c : goal.After-settle) → seat_task c.remove.new.self ≡ without_port c.args.port (seat_task c.index_mut.result.now)
 less c = c.remove.ensures c.args.port (rw (same c) (sym c.in-Some-place.ensures.is))
 
-counts : (c : goal.After-settle) → AreCounted c.subtract.new.self (tasks_of (slice_set c.self.inside.tasks.items c.args.task.0 c.remove.new.self))
+counts : (c : goal.After-settle) → AreCounted c.subtract-gone.new.self (tasks_of (slice_set c.self.inside.tasks.items c.args.task.0 c.remove.new.self))
 counts c =
-    right-uncounted c.self.inside.book c.self.inside.tasks.items c.args.task.0 c.args.port c.index_mut.result.now c.index.result.now.right (at c) (right c) c.subtract.new.self c.remove.new.self c.self.invariant.counted (less c)
-    c.subtract.ensures
+    right-uncounted c.self.inside.book c.self.inside.tasks.items c.args.task.0 c.args.port c.index_mut.result.now c.index.result.now.right (at c) (right c) c.subtract-gone.new.self c.remove.new.self c.self.invariant.counted (less c)
+    c.subtract-gone.ensures.less
 
 done : (c : goal.After-settle)
     → Dropped (state_of c.self.inside.opens.all c.self.inside.tasks.items) (state_of c.settle.new.opens.all (slice_set c.self.inside.tasks.items c.args.task.0 c.remove.new.self)) c.args.task.0 c.args.port
 done c =
-    let settled = rw c.open_name-open_name.ensures at c.settle.ensures in
-    deallocated c.subtract.new.self c.self.inside.tasks.items c.args.task.0 c.args.port c.index_mut.result.now c.index.result.now.right (at c) (right c) c.self.inside.opens.all c.settle.new.opens.all c.remove.new.self c.self.invariant.sound
+    let settled = rw c.subtract-gone.ensures.gone at c.settle.ensures in
+    deallocated c.subtract-gone.new.self c.self.inside.tasks.items c.args.task.0 c.args.port c.index_mut.result.now c.index.result.now.right (at c) (right c) c.self.inside.opens.all c.settle.new.opens.all c.remove.new.self c.self.invariant.sound
     (less c) (counts c) settled
 
 pub invariant_of-self : goal.invariant_of-self
