@@ -32,6 +32,7 @@ stays k n some = let more : nat_lt 0 k ≡ true = grind (arith, nat_tests) in rw
 pub goes : (k : ℕ) (n : Name) → k ≡ 0 → Some n ≡ (if nat_lt 0 k then None else Some n)
 goes k n none = rw none refl
 
+-- a test for the same name tells names as well as any
 pub names-alike : IsEquivalence same_name
 names-alike = record { refl = same_name-itself; symm = name_turned; congr = λ a b c is. ap (λ (n : Name). same_name n c) (equal_if_same a b is) }
 

@@ -11,7 +11,7 @@ ghost use Rattle.hurd_ports.specs.Counts.{Besides, HasRoom, Opens, Servers, Sort
 
 use crate::parents::{MOST_PARENTS, Parent};
 use crate::table::{PendingStart, Right};
-use hurd_creds::counts::{Counts, add, count, subtract};
+use hurd_creds::counts::{Counts, add, count};
 use hurd_creds::{Name, NodeName, OpenName, ServerName};
 use std::alloc::{AllocError, Global};
 
@@ -100,7 +100,7 @@ impl Book {
         ensures { (k : Sort) (n : Name) → count_of k n self.new + weigh_list (naming k n) (start_of pending.now) ≡ count_of k n self.old }
     {
         if let Some(start) = pending {
-            subtract(&mut self.besides, start.node, 1);
+            lower(&mut self.besides, start.node);
         }
     }
 
@@ -135,7 +135,7 @@ impl Book {
 
 /// Counts the name once less, and keeps nothing of it if it is counted no more; then it answers it. One search.
 #[inline(always)]
-fn lower(counts: &mut Counts, name: Name) -> Option<Name>
+pub(crate) fn lower(counts: &mut Counts, name: Name) -> Option<Name>
     requires { 0 < counted counts.old.entries name }
     ensures less { (n : Name) → counted counts.new.entries n + one_if (same_name n name) ≡ counted counts.old.entries n }
     ensures gone { result ≡ (if nat_lt 0 (counted counts.new.entries name) then None else Some name) }
@@ -170,7 +170,7 @@ fn subtract_ways(nodes: &mut Counts, ways: &[Parent])
     ensures { (n : Name) → counted nodes.new.entries n + count_list (same_name n) (ways_of ways.now) ≡ counted nodes.old.entries n }
 {
     for way in ways {
-        subtract(nodes, way.at, 1);
-        subtract(nodes, way.parent, 1);
+        lower(nodes, way.at);
+        lower(nodes, way.parent);
     }
 }
