@@ -1,6 +1,6 @@
 -- The list that a seat keeps of its server's nodes.
 use Rattle.std.proofs.Common.{◌≡◌, inl, inr, ℕ, zero, suc, Bool, true, false, ◌||◌, ◌&&◌, List, [], ◌∷◌, length, filter, refl, sym, subst, ap, ◌∙◌, true≢false, arith}
-use Rattle.std.proofs.lemmas.Bool.{and_from, and_parts, cases_Bool, or_cases, or_from, or_left, or_right}
+use Rattle.std.proofs.lemmas.Bool.{and_from, and_parts, cases_Bool, or_cases, or_left, or_right}
 use Rattle.std.specs.Prelude.{Option, Some, None, Result, Ok, Err, OnOk, option_and_then, slice_get}
 use Rattle.std.specs.Global.{Vec}
 use Rattle.std.specs.Map.{values_of}
@@ -19,7 +19,7 @@ use Rattle.hurd_nodes.specs.Held.{AreApart, active_in, home_in, is_home, seat_ke
 use Rattle.hurd_nodes.specs.Quiet.{IsTold, Lists}
 use Rattle.hurd_nodes.specs.Tables.{AreTables}
 use Rattle.hurd_nodes.specs.Settle.{any_in}
-use Rattle.hurd_nodes.proofs.GoneLaws.{no-site, not-active, own_home}
+use Rattle.hurd_nodes.proofs.GoneLaws.{own_home}
 use Rattle.hurd_nodes.proofs.AskedLaws.{named-at, own-place}
 use Rattle.hurd_nodes.proofs.SeatLaws.{seat-changed, seat-found}
 use Rattle.hurd_nodes.proofs.SeatedLaws.{tables-put, value_got}
@@ -84,28 +84,6 @@ module _ {S : Type 0} (sites : NameMap Site) (s : Name) (e : Seat S) (t : IsTold
         any-more (same_name f.name) on_list (e.root ∷ e.own.items)
         (λ q same. rw (← equal_if_same f.name q same) (and_from (is_home s (home_in sites f.name)) (named f.name) (ap (is_home s) home ∙ same_name-itself s) both.1))
         (t.listed f.name home))
-
--- a server without a seat is active nowhere, and has no node
-pub none-kept : {S : Type 0} (rs : List (Name × Site)) (ss : List (Name × Seat S)) (k : ℕ) → AreTables rs ss k → (s : Name) → fin.get (seats_of ss) s ≡ None → (named : Name → Bool)
-    → false ≡ (any_in (λ n (r : Site). is_home s r.active) (sites_of rs) || any_in (λ n (r : Site). same_name s r.home && named n) (sites_of rs))
-none-kept rs ss k t s missing named = sym (or_from _ _ idle homeless)
-  where
-    idle : any_in (λ n (r : Site). is_home s r.active) (sites_of rs) ≡ false
-    idle = elim (cases_Bool (any_in (λ n (r : Site). is_home s r.active) (sites_of rs))) [
-      | inl some ↦
-          let f = any_in-found (λ n (r : Site). is_home s r.active) (sites_of rs) some in
-          absurd (not-active rs ss k t s missing f.name (ap active_by f.is ∙ own_home s f.item.active f.holds))
-      | inr none ↦ none
-    ]
-
-    homeless : any_in (λ n (r : Site). same_name s r.home && named n) (sites_of rs) ≡ false
-    homeless = elim (cases_Bool (any_in (λ n (r : Site). same_name s r.home && named n) (sites_of rs))) [
-      | inl some ↦
-          let f = any_in-found (λ n (r : Site). same_name s r.home && named n) (sites_of rs) some in
-          let both = and_parts (same_name s f.item.home) (named f.name) f.holds in
-          absurd (no-site rs ss k t s missing f.name (ap home_by f.is ∙ ap Some (sym (equal_if_same s f.item.home both.0))))
-      | inr none ↦ none
-    ]
 
 -- where the first doesn't hold, the second tells
 pub or_second : (a b c : Bool) → a ≡ false → c ≡ b → c ≡ (a || b)

@@ -5,14 +5,14 @@ ghost use Rattle.hurd_creds.specs.Names.{same_name};
 ghost use Rattle.hurd_trans_iface.specs.Nodes.{is_listed};
 ghost use Rattle.hurd_nodes.specs.Held.{AreApart, home_in, is_home, place_in, seat_key, seats_of, sites_of};
 ghost use Rattle.hurd_trans_iface.specs.Meaning.{Meaning};
-ghost use Rattle.hurd_nodes.specs.Quiet.{AreCalm, Behind, Lists};
+ghost use Rattle.hurd_nodes.specs.Quiet.{AreCalm, Behind, IsTold, Lists};
 ghost use Rattle.hurd_nodes.specs.declared.seat.Seat.{Seat};
 ghost use Rattle.hurd_nodes.specs.Tables.{AreTables};
 ghost use Rattle.hurd_nodes.specs.Settle.{any_in};
 
 use crate::namings::Namings;
-use crate::search::{home_of, is_active_on, is_own, place_of_seat};
-use crate::seat::{Seats, Sites};
+use crate::search::{home_of, is_active_on, is_own};
+use crate::seat::{Seat, Seats, Sites};
 use hurd_creds::{NodeName, ServerName};
 use std::alloc::AllocError;
 
@@ -73,19 +73,14 @@ fn weed(sites: &Sites, own: &mut Vec<NodeName>, kin: NodeName)
 /// Whether a server keeps itself: it is active on a node, or has one that is named. Its seat tells where to look.
 pub(crate) fn keeps_itself<S, N: Namings>(
     sites: &Sites,
-    seats: &Seats<S>,
-    asked: usize,
     server: ServerName,
+    seat: &Seat<S>,
     namings: &N,
 ) -> bool
-    requires { AreTables sites.now.entries seats.now.entries asked }
+    requires { IsTold (sites_of sites.now.entries) (server, seat.now) }
     ensures { let m = sites_of sites.now.entries in
         result ≡ (any_in (λ n r. is_home server r.active) m || any_in (λ n r. same_name server r.home && (N.outside namings.now).held n) m) }
 {
-    let Some(i) = place_of_seat(seats, server) else {
-        return false;
-    };
-    let seat = &seats[i];
     if is_active_on(sites, server, seat.at) {
         return true;
     }
