@@ -1,9 +1,12 @@
-use Rattle.std.proofs.Common.{arith}
-use Rattle.hurd_nodes.proofs.AskedLaws.{placed}
+use Rattle.std.proofs.Common.{◌∙◌}
+use Rattle.hurd_nodes.specs.Held.{sites_of}
+use Rattle.hurd_nodes.proofs.StayLaws.{stays-is}
 use Rattle.hurd_nodes.proofs.nodes.Nodes.stays_at.Goals as goal
 
--- the seat that is found is that server's
-pub server_stays-requires : goal.server_stays-requires
-server_stays-requires g c =
-    let is = placed c.self.inside.seats.entries c.args.server c.in-Some.i c.index-seat.result.now c.in-Some.ensures.is c.index-seat.ensures in
-    rw (← c.self.view_is) (c.self.invariant.kept.tables.told _ (record { at = c.in-Some.i; past = omega arith; is = is }))
+pub returns-in-Some : goal.returns-in-Some
+returns-in-Some g c =
+    let i = c.self.inside in
+    let home = rw (← c.self.view_is) at c.requires.home in
+    let serves = rw (← c.self.view_is) at c.requires.serves in
+    c.has_reason.ensures
+    ∙ rw (← c.self.view_is) (stays-is g.S.Server.meaning (sites_of i.sites.entries) i.seats.entries (g.N.Namings.outside c.args.namings.now) c.args.node c.args.server home c.in-Some.i c.index.result.now c.in-Some.ensures.is c.index.ensures serves)
