@@ -9,12 +9,11 @@ use Rattle.std.specs.FinMap as fin
 use Rattle.indexmap.specs.IndexMap.{IndexMap, get, insert_entry, swap_remove_entry}
 use Rattle.hurd_creds.specs.declared.name.Name.{Name}
 use Rattle.hurd_creds.specs.Names.{same_name}
-use Rattle.hurd_creds.specs.NameMaps.{NameMap, place_by}
+use Rattle.hurd_creds.specs.NameMaps.{place_by}
 use Rattle.hurd_creds.proofs.NameLaws.{same_map_by, same_name-itself, equal_if_same}
 use Rattle.hurd_nodes.specs.declared.seat.Seat.{Seat}
-use Rattle.hurd_nodes.specs.declared.seat.Site.{Site}
-use Rattle.hurd_nodes.specs.Held.{AreApart, active_in, home_in, row_key, seat_key, seat_value, seated_in, seats_of}
-use Rattle.hurd_nodes.specs.Quiet.{Behind, AreAmong, AreBut, AreElsewhere, AreForeign, AreLess}
+use Rattle.hurd_nodes.specs.Held.{AreApart, row_key, seat_key, seat_value, seated_in, seats_of}
+use Rattle.hurd_nodes.specs.Quiet.{Behind, AreAmong, AreBut, AreLess, AreNot}
 use Rattle.hurd_creds.proofs.KeyedLaws.{contains-place, get-absent, place-is}
 use Rattle.hurd_nodes.proofs.HomeLaws.{distinct-apart, row-got}
 use Rattle.hurd_nodes.proofs.RowLaws.{place-position}
@@ -260,25 +259,13 @@ put-behind es n v k x b = elim (put_got es n v b.at x b.is) [
 
 pub ruleset put = (put-behind)
 
--- those that are not the one that is active on a node
+-- those that are not a server that is given, if one is
 
-pub elsewhere-asked : {S : Type 0} (sites : NameMap Site) (n s : Name) (k l : ℕ) (ss ts : List (Name × Seat S)) → Some s ≡ active_in sites n → AreLess s k ss l ts → AreElsewhere sites n k ss l ts
-elsewhere-asked sites n s k l ss ts at less x b = let r = less x b in (λ is. r.0 (same_Some x.0 s (sym is ∙ sym at)), r.1)
+pub given-asked : {S : Type 0} (o : Option Name) (s : Name) (k l : ℕ) (ss ts : List (Name × Seat S)) → o ≡ Some s → AreLess s k ss l ts → AreNot o k ss l ts
+given-asked o s k l ss ts at less x b = let r = less x b in (λ is. r.0 (same_Some x.0 s (sym is ∙ at)), r.1)
 
-pub elsewhere-none : {S : Type 0} (sites : NameMap Site) (n : Name) (k : ℕ) (ss : List (Name × Seat S)) → None ≡ active_in sites n → AreElsewhere sites n k ss k ss
-elsewhere-none sites n k ss none x b = (λ is. let clash : None ≡ Some x.0 = none ∙ is in absurd (cc), b)
-
--- those that are not the server of a node
-
-pub foreign-asked : {S : Type 0} (sites : NameMap Site) (n s : Name) (k l : ℕ) (ss ts : List (Name × Seat S)) → Some s ≡ home_in sites n → AreLess s k ss l ts → AreForeign sites n k ss l ts
-foreign-asked sites n s k l ss ts at less x b = let r = less x b in (λ is. r.0 (same_Some x.0 s (sym is ∙ sym at)), r.1)
-
-pub foreign-none : {S : Type 0} (sites : NameMap Site) (n : Name) (k : ℕ) (ss : List (Name × Seat S)) → None ≡ home_in sites n → AreForeign sites n k ss k ss
-foreign-none sites n k ss none x b = (λ is. let clash : None ≡ Some x.0 = none ∙ is in absurd (cc), b)
-
-pub ruleset elsewhere = (elsewhere-asked, elsewhere-none)
-
-pub ruleset foreign = (foreign-asked, foreign-none)
+pub given-none : {S : Type 0} (o : Option Name) (k : ℕ) (ss : List (Name × Seat S)) → o ≡ None → AreNot o k ss k ss
+given-none o k ss none x b = (λ is. let clash : None ≡ Some x.0 = sym none ∙ is in absurd (cc), b)
 
 -- seats that change places
 pub ruleset asks = (ask-absent, ask-asked, ask-moved, last-moved, swap-among, among-itself, seats-same, distinct-apart)

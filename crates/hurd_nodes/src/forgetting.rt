@@ -6,13 +6,26 @@ ghost use Rattle.hurd_nodes.specs.Quiet.{AreCalm, Lists};
 ghost use Rattle.hurd_nodes.specs.Shown.{are_kin, forgotten, forgotten_elsewhere};
 ghost use Rattle.hurd_nodes.specs.Tables.{AreKept};
 
-use crate::search::{home_of, place_of_server};
+use crate::search::{home_of, place_of_home};
 use crate::seat::{Seats, Sites};
-use hurd_creds::NodeName;
+use hurd_creds::{NodeName, ServerName};
 use hurd_trans_iface::Server;
 
-/// Lets the box of a node's server forget it, if it has a server. The node's site stays for now.
+/// Lets the box of a server forget a node, if one is given that is there.
 #[tactic(auto, using(crate::proofs::TakeLaws::takings, crate::proofs::SeatLaws::boxes))]
+pub(crate) fn forget_at<S: Server>(seats: &mut Seats<S>, home: Option<ServerName>, node: NodeName)
+    ensures boxes { mean S.meaning (seats_of seats.new.entries) ≡ forgotten node home (mean S.meaning (seats_of seats.old.entries)) }
+    ensures kept { (rs es : _) (k : ℕ) → AreKept rs seats.old.entries es k → AreKept rs seats.new.entries es k }
+    ensures calm { (k : ℕ) → AreCalm S.meaning seats.old.entries k → AreCalm S.meaning seats.new.entries k }
+    ensures lists { (o n : _) → Lists seats.old.entries o n → Lists seats.new.entries o n }
+    ensures room { spare seats.old ≤ spare seats.new }
+{
+    if let Some(i) = place_of_home(seats, home) {
+        seats[i].server.forget(node);
+    }
+}
+
+/// Lets the box of a node's server forget it, if it has a server. The node's site stays for now.
 pub(crate) fn forget<S: Server>(sites: &Sites, seats: &mut Seats<S>, node: NodeName)
     ensures boxes { mean S.meaning (seats_of seats.new.entries) ≡ forgotten node (home_in (sites_of sites.now.entries) node) (mean S.meaning (seats_of seats.old.entries)) }
     ensures kept { (es : _) (k : ℕ) → AreKept sites.now.entries seats.old.entries es k → AreKept sites.now.entries seats.new.entries es k }
@@ -20,9 +33,7 @@ pub(crate) fn forget<S: Server>(sites: &Sites, seats: &mut Seats<S>, node: NodeN
     ensures lists { (o n : _) → Lists seats.old.entries o n → Lists seats.new.entries o n }
     ensures room { spare seats.old ≤ spare seats.new }
 {
-    if let Some(i) = place_of_server(sites, seats, node) {
-        seats[i].server.forget(node);
-    }
+    forget_at(seats, home_of(sites, node), node);
 }
 
 /// The same, but where another node has that server too.
@@ -38,8 +49,9 @@ pub(crate) fn forget_elsewhere<S: Server>(
     ensures calm { (k : ℕ) → AreCalm S.meaning seats.old.entries k → AreCalm S.meaning seats.new.entries k }
     ensures lists { (o n : _) → Lists seats.old.entries o n → Lists seats.new.entries o n }
 {
-    if !are_kin(sites, node, kin) {
-        forget(sites, seats, node);
+    let home = home_of(sites, node);
+    if !are_same(home, home_of(sites, kin)) {
+        forget_at(seats, home, node);
     }
 }
 
@@ -47,7 +59,14 @@ pub(crate) fn forget_elsewhere<S: Server>(
 pub(crate) fn are_kin(sites: &Sites, node: NodeName, other: NodeName) -> bool
     ensures { let m = sites_of sites.now.entries in result ≡ are_kin (home_in m node) (home_in m other) }
 {
-    match (home_of(sites, node), home_of(sites, other)) {
+    are_same(home_of(sites, node), home_of(sites, other))
+}
+
+/// Whether two servers are given, and are the same.
+pub(crate) fn are_same(home: Option<ServerName>, other: Option<ServerName>) -> bool
+    ensures { result ≡ are_kin home other }
+{
+    match (home, other) {
         (Some(server), Some(kin)) => server == kin,
         _ => false,
     }

@@ -12,8 +12,8 @@ ghost use Rattle.hurd_nodes.specs.Tables.{AreKept};
 ghost use Rattle.hurd_nodes.specs.Shown.{less_old, without_server};
 
 use crate::aims::{Aims, subtract_targets};
-use crate::asked::{ask_active, put_last};
-use crate::search::{is_active_on, is_own, place_of_seat, remove_site, set_active};
+use crate::asked::{ask_given, put_last};
+use crate::search::{is_active_on, is_home, place_of_seat, remove_site, servers_at, set_active};
 use crate::seat::{Seat, Seats, Sites};
 use hurd_creds::{NodeName, ServerName};
 use hurd_trans_iface::Server;
@@ -98,10 +98,11 @@ fn clear_site<S>(
     ensures apart { AreApart seat_key seats.new.entries }
     ensures room { (spare sites.old ≤ spare sites.new) × (spare seats.old ≤ spare seats.new) }
 {
-    if !is_own(sites, server, node) {
+    let (home, active) = servers_at(sites, node);
+    if !is_home(server, home) {
         return asked;
     }
-    let asked = ask_active(sites, seats, asked, node);
+    let asked = ask_given(seats, asked, active);
     remove_site(sites, node);
     asked
 }

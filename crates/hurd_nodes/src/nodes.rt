@@ -98,7 +98,7 @@ impl<S: Server> Nodes<S> {
     /// The box of a server, if one is given that is there.
     #[inline(always)]
     #[tactic(auto, using(crate::proofs::SeatLaws::boxes))]
-    fn box_of(&self, home: Option<ServerName>) -> Option<&S>
+    pub(crate) fn box_of(&self, home: Option<ServerName>) -> Option<&S>
         ensures { option_map S.meaning (option_copied result) ≡ box_by (mean S.meaning self.now.seats) home }
     {
         match place_of_home(&self.seats, home) {

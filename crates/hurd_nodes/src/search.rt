@@ -96,14 +96,22 @@ pub(crate) fn put_site(sites: &mut Sites, node: NodeName, server: ServerName)
     sites.insert(node, site).unwrap();
 }
 
-/// Takes out the site of a node.
+/// Takes out the site of a node; answers the node's server, and the one that is active on it.
 #[tactic(auto, using(crate::proofs::HomeLaws::by_map))]
-pub(crate) fn remove_site(sites: &mut Sites, node: NodeName)
+pub(crate) fn remove_site(
+    sites: &mut Sites,
+    node: NodeName,
+) -> (Option<ServerName>, Option<ServerName>)
+    ensures home { result.0 ≡ home_in (sites_of sites.old.entries) node }
+    ensures active { result.1 ≡ active_in (sites_of sites.old.entries) node }
     ensures is { sites_of sites.new.entries ≡ fin.remove (sites_of sites.old.entries) node }
     ensures apart { AreApart row_key sites.new.entries }
     ensures room { spare sites.old ≤ spare sites.new }
 {
-    sites.swap_remove(&node);
+    match sites.swap_remove(&node) {
+        Some(site) => (Some(site.home), site.active),
+        None => (None, None),
+    }
 }
 
 /// Says what is active on a node from now on, if the node has a site; whether it has one.
@@ -205,6 +213,17 @@ pub(crate) fn reserve_rows<S>(
     aims.reserve(targets)
 }
 
+/// Whether a server is given, and is this one.
+#[inline(always)]
+pub(crate) fn is_home(server: ServerName, given: Option<ServerName>) -> bool
+    ensures { result ≡ is_home server given }
+{
+    match given {
+        Some(given) => server == given,
+        None => false,
+    }
+}
+
 /// Whether a server is active on this node, if one is given.
 pub(crate) fn is_active_on(sites: &Sites, server: ServerName, node: Option<NodeName>) -> bool
     ensures { result ≡ is_home server (option_and_then (active_in (sites_of sites.now.entries)) node) }
@@ -212,18 +231,12 @@ pub(crate) fn is_active_on(sites: &Sites, server: ServerName, node: Option<NodeN
     let Some(node) = node else {
         return false;
     };
-    match active_on(sites, node) {
-        Some(active) => server == active,
-        None => false,
-    }
+    is_home(server, active_on(sites, node))
 }
 
 /// Whether a node is of this server.
 pub(crate) fn is_own(sites: &Sites, server: ServerName, node: NodeName) -> bool
     ensures { result ≡ is_home server (home_in (sites_of sites.now.entries) node) }
 {
-    match home_of(sites, node) {
-        Some(home) => server == home,
-        None => false,
-    }
+    is_home(server, home_of(sites, node))
 }
