@@ -6,12 +6,12 @@ ghost use Rattle.hurd_trans_iface.specs.Behaviour.{reading, writing, resizing};
 ghost use Rattle.hurd_nodes.specs.Shown.{shown, asked_step, make_at, link_at, edit_header_at, set_options_at, unlink_at, rename_at};
 ghost use Rattle.hurd_nodes.specs.Needs.{FreeRead, FreeSize, FreeWrite};
 
-use crate::asked::ask_home;
+use crate::asked::ask_given;
 use crate::asking::can_make_in;
 use crate::forgetting::forget_elsewhere;
 use crate::nodes::Nodes;
 use crate::own::list_node;
-use crate::search::{place_of_seat, place_of_server, put_kin};
+use crate::search::{home_of, place_of_home, place_of_seat, place_of_server, put_kin};
 use hurd_creds::{Bytes, Errno, NodeName, ServerName};
 use hurd_trans_iface::{HeaderEdit, NewNode, Server, Words};
 use std::alloc::Global;
@@ -92,8 +92,9 @@ impl<S: Server> Nodes<S> {
         ensures shown { let h = shown S.meaning self.old in
             Steps h (make_at dir (option_copied entry.entry) new h) result (shown S.meaning self.new) }
     {
-        self.asked = ask_home(&self.sites, &mut self.seats, self.asked, dir);
-        let Some(i) = place_of_server(&self.sites, &self.seats, dir) else {
+        let home = home_of(&self.sites, dir);
+        self.asked = ask_given(&mut self.seats, self.asked, home);
+        let Some(i) = place_of_home(&self.seats, home) else {
             return Err(Errno::EDIED);
         };
         can_make_in(&self.seats[i].server, dir, entry, new.kind)?;
@@ -134,8 +135,9 @@ impl<S: Server> Nodes<S> {
     pub fn unlink(&mut self, dir: NodeName, name: &[u8]) -> Result<(), Errno>
         ensures shown { (result, shown S.meaning self.new) ≡ unlink_at dir name.now (shown S.meaning self.old) }
     {
-        self.asked = ask_home(&self.sites, &mut self.seats, self.asked, dir);
-        match place_of_server(&self.sites, &self.seats, dir) {
+        let home = home_of(&self.sites, dir);
+        self.asked = ask_given(&mut self.seats, self.asked, home);
+        match place_of_home(&self.seats, home) {
             Some(i) => self.seats[i].server.unlink(dir, name),
             None => Err(Errno::EDIED),
         }
@@ -159,8 +161,9 @@ impl<S: Server> Nodes<S> {
             Steps h (rename_at dir name.now to new.now h) result (shown S.meaning self.new) }
     {
         self.can_rename(dir, name, to)?;
-        self.asked = ask_home(&self.sites, &mut self.seats, self.asked, dir);
-        match place_of_server(&self.sites, &self.seats, dir) {
+        let home = home_of(&self.sites, dir);
+        self.asked = ask_given(&mut self.seats, self.asked, home);
+        match place_of_home(&self.seats, home) {
             Some(i) => self.seats[i].server.rename(alloc, dir, name, to, new),
             None => Err(Errno::EDIED),
         }
