@@ -1,10 +1,10 @@
 -- When a row's answer, and the world that it leaves, are those of its plan.
 use Rattle.std.proofs.Common.{◌≡◌, ◌∙◌, inl, inr, false, true≢false, List, sym, refl, ap, subst}
 use Rattle.std.specs.Prelude.{Result, Ok, Err, IsOk}
-use Rattle.hurd_machine.proofs.Common.{Change, ENOMEM, Errno, Meets, Plan, Planned, Reply, World, after_plan, answered, apply_all, is_refused, looks, told}
+use Rattle.hurd_machine.proofs.Common.{Change, ENOMEM, Errno, Meets, Plan, Planned, Reply, World, after_plan, answered, apply_all, is_refused}
 use Rattle.hurd_machine.specs.declared.call.Reply.TheVariants.{Refused}
 use Rattle.hurd_machine.specs.Plan.{Follows}
-use Rattle.hurd_core.specs.Core.{Does, asked_only}
+use Rattle.hurd_core.specs.Core.{Does}
 
 module _ {A T : Type 0} (w : World) (asks : Result A Errno) (k : A → Plan) (f : T → Reply) where
   -- what is asked is refused
@@ -61,18 +61,3 @@ module _ {A : Type 0} (w : World) (asks : Result A Errno) (k : A → Plan) where
     pub follows-from : Follows w (answered asks k) r y → Follows w (k a) r y
     unfolding answered
     follows-from h = subst (λ (q : Result A Errno). Follows w (answered q k) r y) is h
-
--- a call that changes nothing answers what follows from the answers
-pub looked-follows : {A : Type 0} (w : World) (asks : Result A Errno) (reply : A → Reply) (r : Reply) → r ≡ told reply asks → Follows w (looks asks reply) r w
-unfolding answered
-looked-follows w (Ok a) reply r is = (is, refl)
-looked-follows w (Err e) reply r is = (is, refl)
-
--- what was asked for alone, and its answer
-pub only-refused : {A : Type 0} (x : Result A Errno) (e : Errno) → Err e ≡ asked_only x → x ≡ Err e
-only-refused (Ok a) e h = absurd (cc)
-only-refused (Err d) e h = let same : e ≡ d = cc in ap Err (sym same)
-
-pub only-answered : {A : Type 0} (x : Result A Errno) (u : Unit {0}) → Ok u ≡ asked_only x → (a : A) × (x ≡ Ok a)
-only-answered (Ok a) u h = (a, refl)
-only-answered (Err d) u h = absurd (cc)

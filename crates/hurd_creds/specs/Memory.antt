@@ -3,7 +3,12 @@ use Rattle.std.specs.Prelude.{◌≡◌, ◌⊎◌, Bool, true, false, cond, Res
 use Rattle.hurd_creds.specs.declared.errno.Errno.{Errno}
 use Rattle.hurd_creds.specs.declared.errno.Errno.TheVariants.{ENOMEM}
 
--- the answer is the one that is wanted, or, where that is no refusal, want of memory
+-- the answer is the one that is wanted, by what it stands for; or want of memory, where this holds
+abbrev pub MeetsOr : {A B : Type 0} → Type 0 → (B → A) → Result A Errno → Result B Errno → Type 0
+MeetsOr Lacks of wanted (Ok b) = wanted ≡ Ok (of b)
+MeetsOr Lacks of wanted (Err e) = (wanted ≡ Err e) ⊎ ((e ≡ ENOMEM) × Lacks)
+
+-- the same, of answers that stand for themselves: the one that is wanted, or, where that is no refusal, want of memory
 abbrev pub Meets : {T : Type 0} → Result T Errno → Result T Errno → Type 0
 Meets wanted (Ok x) = wanted ≡ Ok x
 Meets wanted (Err e) = (wanted ≡ Err e) ⊎ ((e ≡ ENOMEM) × IsOk wanted)

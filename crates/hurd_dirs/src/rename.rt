@@ -199,7 +199,7 @@ fn rename_asked<S: Server>(
 }
 
 /// Whether the node itself stands under the new name.
-fn is_there(node: NodeName, old: Option<NodeName>) -> bool
+fn is_one(node: NodeName, old: Option<NodeName>) -> bool
     ensures { result ≡ is_one node old }
 {
     match old {
@@ -234,7 +234,7 @@ pub fn dir_rename<S: Server>(
         Planned w (plan_rename w task.0 port name.now to new.now) (λ u. reply.Done) result (world_of S.meaning core.new) }
 {
     let renaming = rename_asked(core, task, port, name, to, new)?;
-    let there = is_there(renaming.node, renaming.old);
+    let there = is_one(renaming.node, renaming.old);
     if there {
         return Ok(());
     }

@@ -15,7 +15,7 @@ use Rattle.hurd_machine.specs.declared.call.Setting.{Setting}
 use Rattle.hurd_lookup.specs.Lacking.{PlannedOr}
 use Rattle.hurd_lookup.specs.Lent.{lent, server_ids}
 use Rattle.hurd_lookup.proofs.LackingLaws.{weaker}
-use Rattle.hurd_lookup.specs.Legs.{MeetsOr}
+use Rattle.hurd_creds.specs.Memory.{MeetsOr}
 use Rattle.hurd_fsys.specs.Aims.{HasTargets, aims_asks}
 use Rattle.hurd_fsys.specs.Setting as spec
 use Rattle.hurd_fsys.specs.Setting.{SetLacks, box_aims, emptying, leaver, plan_set_translator, seat_asks, seat_on, seating, sets_nothing, setter_asks, setting, setting_where, storing}

@@ -2,7 +2,7 @@
 ghost use Rattle.std.specs.Prelude.{◌≡◌};
 ghost use Rattle.hurd_core.specs.Core.{world_of};
 ghost use Rattle.hurd_lookup.specs.Lent.{lent};
-ghost use Rattle.hurd_lookup.specs.Legs.{MeetsOr};
+ghost use Rattle.hurd_creds.specs.Memory.{MeetsOr};
 ghost use Rattle.hurd_fsys.specs.Aims.{HasTargets, aims_asks, are_dirs, fits};
 
 use hurd_core::Core;

@@ -9,7 +9,7 @@ ghost use Rattle.hurd_machine.specs.declared.call.Reply.TheVariants.{Done};
 ghost use Rattle.hurd_machine.specs.World.{words_at};
 ghost use Rattle.hurd_core.specs.Core.{without_box, world_of};
 ghost use Rattle.hurd_core.specs.PortNode.{or_no_words};
-ghost use Rattle.hurd_lookup.specs.Legs.{MeetsOr};
+ghost use Rattle.hurd_creds.specs.Memory.{MeetsOr};
 ghost use Rattle.hurd_fsys.specs.Aims.{HasTargets};
 ghost use Rattle.hurd_lookup.specs.Lacking.{TriedOr};
 ghost use Rattle.hurd_fsys.specs.Starting.{StartFinds, StartLacks, header_told, plan_start_failed, plan_startup, same_words, start_aims, waiting_asks};

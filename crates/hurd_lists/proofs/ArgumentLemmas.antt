@@ -9,7 +9,7 @@ use Rattle.hurd_words.specs.Reading.{Reads, behind, said}
 use Rattle.hurd_words.specs.declared.fault.ReadFault.{ReadFault}
 use Rattle.hurd_words.specs.declared.fault.ReadFault.TheVariants as fault
 use Rattle.hurd_words.proofs.Loops.{behind-push, last_piece, next_piece, piece_at}
-use Rattle.hurd_lists.specs.Arguments.{ReadsAs, bytes_of, text_of, texts_of, with_names}
+use Rattle.hurd_lists.specs.Arguments.{ReadsInPlace, bytes_of, text_of, texts_of, with_names}
 
 pub is_text : (bs text : List ℕ) → text ≡ bs → IsUtf8 bs → text_of bs ≡ Some text
 is_text bs text same is = rw (is_utf8-from_IsUtf8 bs is) (ap Some (sym same))
@@ -21,7 +21,7 @@ no_text bs not = elim (is_utf8 bs) as (λ is. is_utf8 bs ≡ is → text_of bs �
 ] refl
 
 -- what was not found of a part is not read of the whole
-pub not_found : {X Y W Z : Type 0} (v : X → Y) (w : W → Z) (part : Option Y) (wanted : Option Z) (e : ReadFault) → (part ≡ None → wanted ≡ None) → ReadsAs v part (Err e) → Reads w wanted (Err e)
+pub not_found : {X Y W Z : Type 0} (v : X → Y) (w : W → Z) (part : Option Y) (wanted : Option Z) (e : ReadFault) → (part ≡ None → wanted ≡ None) → ReadsInPlace v part (Err e) → Reads w wanted (Err e)
 not_found v w part wanted fault.Memory none r = absurd r
 not_found v w part wanted fault.Bad none r = none r
 

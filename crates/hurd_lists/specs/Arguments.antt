@@ -21,10 +21,10 @@ use Rattle.hurd_creds.specs.Numbers as script
 use Rattle.hurd_words.specs.Users as users
 
 -- what was to be read is read, or is bad; no memory is taken for it
-abbrev pub ReadsAs : {X Y : Type 0} → (X → Y) → Option Y → Result X ReadFault → Type 0
-ReadsAs view wanted (Ok x) = wanted ≡ Some (view x)
-ReadsAs view wanted (Err fault.Memory) = ⊥
-ReadsAs view wanted (Err fault.Bad) = wanted ≡ None
+abbrev pub ReadsInPlace : {X Y : Type 0} → (X → Y) → Option Y → Result X ReadFault → Type 0
+ReadsInPlace view wanted (Ok x) = wanted ≡ Some (view x)
+ReadsInPlace view wanted (Err fault.Memory) = ⊥
+ReadsInPlace view wanted (Err fault.Bad) = wanted ≡ None
 
 -- a word that is text
 abbrev pub text_of : List ℕ → Option (List ℕ)

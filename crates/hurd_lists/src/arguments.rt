@@ -4,7 +4,7 @@ ghost use Rattle.std.specs.List.{slice_split};
 ghost use Rattle.std.specs.Int.RustNames.{bit_or};
 ghost use Rattle.bitflags.specs.Sets.{find_name};
 ghost use Rattle.hurd_words.specs.Reading.{Reads, said};
-ghost use Rattle.hurd_lists.specs.Arguments.{ReadsAs, above_zero, below_zero, bits_of, bytes_of, goaway_flags_of, ids_of, long_number_of, mode_of, number_of, offset_of, open_flags_of, server_words, task_of, text_of, texts_of, trans_flags_of, whence_named, whence_of, with_names};
+ghost use Rattle.hurd_lists.specs.Arguments.{ReadsInPlace, above_zero, below_zero, bits_of, bytes_of, goaway_flags_of, ids_of, long_number_of, mode_of, number_of, offset_of, open_flags_of, server_words, task_of, text_of, texts_of, trans_flags_of, whence_named, whence_of, with_names};
 
 use bitflags::Flags;
 use hurd_creds::{Bytes, Errno, GoawayFlags, Ids, Mode, OpenFlags, TaskId, TransFlags};
@@ -19,7 +19,7 @@ const MOST_BELOW: u64 = 1 << 63;
 
 /// What was to be read, if it was there.
 fn wanted<T>(found: Option<T>) -> Result<T, ReadFault>
-    ensures { ReadsAs (λ x. x) found result }
+    ensures { ReadsInPlace (λ x. x) found result }
 {
     match found {
         Some(value) => Ok(value),
@@ -29,7 +29,7 @@ fn wanted<T>(found: Option<T>) -> Result<T, ReadFault>
 
 /// A word that is text.
 pub fn text(word: &[u8]) -> Result<&str, ReadFault>
-    ensures { ReadsAs (λ s. s.now) (text_of word.now) result }
+    ensures { ReadsInPlace (λ s. s.now) (text_of word.now) result }
 {
     match str::from_utf8(word) {
         Ok(text) => Ok(text),
@@ -39,7 +39,7 @@ pub fn text(word: &[u8]) -> Result<&str, ReadFault>
 
 /// A number below 2 to the 32nd.
 pub fn number(word: &[u8]) -> Result<u32, ReadFault>
-    ensures { ReadsAs (λ n. n) (number_of word.now) result }
+    ensures { ReadsInPlace (λ n. n) (number_of word.now) result }
 {
     let digits = text(word)?;
     wanted(hurd_creds::number(digits))
@@ -47,7 +47,7 @@ pub fn number(word: &[u8]) -> Result<u32, ReadFault>
 
 /// A number below 2 to the 64th.
 pub fn long_number(word: &[u8]) -> Result<u64, ReadFault>
-    ensures { ReadsAs (λ n. n) (long_number_of word.now) result }
+    ensures { ReadsInPlace (λ n. n) (long_number_of word.now) result }
 {
     let digits = text(word)?;
     wanted(hurd_creds::long_number(digits.as_bytes()))
@@ -55,7 +55,7 @@ pub fn long_number(word: &[u8]) -> Result<u64, ReadFault>
 
 /// A number that may be below zero.
 pub fn offset(word: &[u8]) -> Result<i64, ReadFault>
-    ensures { ReadsAs (λ n. n) (offset_of word.now) result }
+    ensures { ReadsInPlace (λ n. n) (offset_of word.now) result }
 {
     match word {
         [b'-', digits @ ..] => {
@@ -93,7 +93,7 @@ fn below_zero(amount: u64) -> Option<i64>
 
 /// A task's number.
 pub fn task(word: &[u8]) -> Result<TaskId, ReadFault>
-    ensures { ReadsAs (λ t. t) (task_of word.now) result }
+    ensures { ReadsInPlace (λ t. t) (task_of word.now) result }
 {
     let number = number(word)?;
     Ok(TaskId(number))
@@ -101,7 +101,7 @@ pub fn task(word: &[u8]) -> Result<TaskId, ReadFault>
 
 /// A mode in octal digits; bits that none knows stay.
 pub fn mode(word: &[u8]) -> Result<Mode, ReadFault>
-    ensures { ReadsAs (λ m. m) (mode_of word.now) result }
+    ensures { ReadsInPlace (λ m. m) (mode_of word.now) result }
 {
     let digits = text(word)?;
     let bits = wanted(hurd_creds::octal_number(digits))?;
@@ -110,7 +110,7 @@ pub fn mode(word: &[u8]) -> Result<Mode, ReadFault>
 
 /// What stands behind `=`.
 fn behind_equals(word: &[u8]) -> Result<&[u8], ReadFault>
-    ensures { ReadsAs (λ b. b.now) (bytes_of word.now) result }
+    ensures { ReadsInPlace (λ b. b.now) (bytes_of word.now) result }
 {
     match word {
         [b'=', bytes @ ..] => Ok(bytes),
@@ -137,7 +137,7 @@ pub fn ids(alloc: Global, uids: &[u8], gids: &[u8]) -> Result<Ids, ReadFault>
 
 /// From where a seek counts.
 pub fn whence(word: &[u8]) -> Result<Whence, ReadFault>
-    ensures { ReadsAs (λ w. w) (whence_of word.now) result }
+    ensures { ReadsInPlace (λ w. w) (whence_of word.now) result }
 {
     let name = text(word)?;
     wanted(whence_named(name))
@@ -183,7 +183,7 @@ fn listed_flags<F: Flags>(alloc: Global, word: &str) -> Result<F, ReadFault>
 /// Adds the flag of this name.
 fn add_flag<F: Flags>(flags: &mut F, name: &str) -> Result<(), ReadFault>
     requires { F.exact }
-    ensures { ReadsAs (λ _. F.set_of flags.new) (option_map (bit_or (F.set_of flags.old)) (find_name F.table name.now)) result }
+    ensures { ReadsInPlace (λ _. F.set_of flags.new) (option_map (bit_or (F.set_of flags.old)) (find_name F.table name.now)) result }
 {
     let flag = wanted(F::from_name(name))?;
     flags.insert(flag);

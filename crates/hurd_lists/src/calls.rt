@@ -3,7 +3,7 @@ ghost use Rattle.std.specs.Prelude.{◌≡◌, IfSome, Some, option_and_then, op
 ghost use Rattle.hurd_words.specs.Reading.{Reads};
 ghost use Rattle.hurd_trans_iface.specs.Meaning.{Begins, begin};
 ghost use Rattle.hurd_machine.specs.Calls.{BringsBegun, call_by};
-ghost use Rattle.hurd_lists.specs.Arguments.{ReadsAs, server_words};
+ghost use Rattle.hurd_lists.specs.Arguments.{ReadsInPlace, server_words};
 ghost use Rattle.hurd_lists.specs.Calls.{auth_makeauth, before_box, begun, behind_box, box_place, call_of, dir_link, dir_lookup, dir_mkdir, dir_mkfile, dir_rename, dir_rmdir, dir_unlink, entry, file_chmod, file_chown, file_set_size, file_set_translator, fsys_getroot, fsys_goaway, fsys_set_options, fsys_startup, io_identity, io_read, io_restrict_auth, io_seek, io_set_all_openmodes, io_write, lone, pair, port_receive, port_send, server_of, setting_of, start_failed, started, with_server};
 
 use crate::arguments::{
@@ -19,7 +19,7 @@ use std::alloc::Global;
 
 /// A lone port.
 fn lone(args: &[Bytes]) -> Result<u64, ReadFault>
-    ensures { ReadsAs (λ n. n) (lone args.now) result }
+    ensures { ReadsInPlace (λ n. n) (lone args.now) result }
 {
     let [port] = args else {
         return Err(ReadFault::Bad);
@@ -29,7 +29,7 @@ fn lone(args: &[Bytes]) -> Result<u64, ReadFault>
 
 /// A port and a number.
 fn pair(args: &[Bytes]) -> Result<(u64, u64), ReadFault>
-    ensures { ReadsAs (λ p. p) (pair args.now) result }
+    ensures { ReadsInPlace (λ p. p) (pair args.now) result }
 {
     let [port, amount] = args else {
         return Err(ReadFault::Bad);
@@ -51,7 +51,7 @@ fn entry(alloc: Global, args: &[Bytes]) -> Result<(u64, Bytes), ReadFault>
 
 /// `PORT TASK`.
 fn port_send<S: Server>(args: &[Bytes]) -> Result<Call<S>, ReadFault>
-    ensures { ReadsAs (λ c. call_by S.meaning c) (port_send args.now) result }
+    ensures { ReadsInPlace (λ c. call_by S.meaning c) (port_send args.now) result }
 {
     let [port, to] = args else {
         return Err(ReadFault::Bad);
@@ -63,7 +63,7 @@ fn port_send<S: Server>(args: &[Bytes]) -> Result<Call<S>, ReadFault>
 
 /// No argument.
 fn port_receive<S: Server>(args: &[Bytes]) -> Result<Call<S>, ReadFault>
-    ensures { ReadsAs (λ c. call_by S.meaning c) (port_receive args.now) result }
+    ensures { ReadsInPlace (λ c. call_by S.meaning c) (port_receive args.now) result }
 {
     if args.is_empty() {
         Ok(Call::Plain(PlainCall::PortReceive))
@@ -74,7 +74,7 @@ fn port_receive<S: Server>(args: &[Bytes]) -> Result<Call<S>, ReadFault>
 
 /// No argument.
 fn start_failed<S: Server>(args: &[Bytes]) -> Result<Call<S>, ReadFault>
-    ensures { ReadsAs (λ c. call_by S.meaning c) (start_failed args.now) result }
+    ensures { ReadsInPlace (λ c. call_by S.meaning c) (start_failed args.now) result }
 {
     if args.is_empty() {
         Ok(Call::Plain(PlainCall::StartFailed))
@@ -96,7 +96,7 @@ fn auth_makeauth<S: Server>(alloc: Global, args: &[Bytes]) -> Result<Call<S>, Re
 
 /// `PORT AMOUNT OFFSET`.
 fn io_read<S: Server>(args: &[Bytes]) -> Result<Call<S>, ReadFault>
-    ensures { ReadsAs (λ c. call_by S.meaning c) (io_read args.now) result }
+    ensures { ReadsInPlace (λ c. call_by S.meaning c) (io_read args.now) result }
 {
     let [port, amount, at] = args else {
         return Err(ReadFault::Bad);
@@ -130,7 +130,7 @@ fn io_write<S: Server>(alloc: Global, args: &[Bytes]) -> Result<Call<S>, ReadFau
 
 /// `PORT OFFSET WHENCE`.
 fn io_seek<S: Server>(args: &[Bytes]) -> Result<Call<S>, ReadFault>
-    ensures { ReadsAs (λ c. call_by S.meaning c) (io_seek args.now) result }
+    ensures { ReadsInPlace (λ c. call_by S.meaning c) (io_seek args.now) result }
 {
     let [port, at, from] = args else {
         return Err(ReadFault::Bad);
@@ -171,7 +171,7 @@ fn io_restrict_auth<S: Server>(alloc: Global, args: &[Bytes]) -> Result<Call<S>,
 
 /// `PORT MODE`.
 fn file_chmod<S: Server>(args: &[Bytes]) -> Result<Call<S>, ReadFault>
-    ensures { ReadsAs (λ c. call_by S.meaning c) (file_chmod args.now) result }
+    ensures { ReadsInPlace (λ c. call_by S.meaning c) (file_chmod args.now) result }
 {
     let [port, digits] = args else {
         return Err(ReadFault::Bad);
@@ -183,7 +183,7 @@ fn file_chmod<S: Server>(args: &[Bytes]) -> Result<Call<S>, ReadFault>
 
 /// `PORT OWNER GROUP`.
 fn file_chown<S: Server>(args: &[Bytes]) -> Result<Call<S>, ReadFault>
-    ensures { ReadsAs (λ c. call_by S.meaning c) (file_chown args.now) result }
+    ensures { ReadsInPlace (λ c. call_by S.meaning c) (file_chown args.now) result }
 {
     let [port, owner, group] = args else {
         return Err(ReadFault::Bad);
@@ -284,7 +284,7 @@ fn dir_rename<S: Server>(alloc: Global, args: &[Bytes]) -> Result<Call<S>, ReadF
 
 /// `PORT PORT`.
 fn io_identity<S: Server>(args: &[Bytes]) -> Result<Call<S>, ReadFault>
-    ensures { ReadsAs (λ c. call_by S.meaning c) (io_identity args.now) result }
+    ensures { ReadsInPlace (λ c. call_by S.meaning c) (io_identity args.now) result }
 {
     let (port, other) = pair(args)?;
     Ok(Call::Plain(PlainCall::IoIdentity { port, other }))
@@ -292,7 +292,7 @@ fn io_identity<S: Server>(args: &[Bytes]) -> Result<Call<S>, ReadFault>
 
 /// `PORT SIZE`.
 fn file_set_size<S: Server>(args: &[Bytes]) -> Result<Call<S>, ReadFault>
-    ensures { ReadsAs (λ c. call_by S.meaning c) (file_set_size args.now) result }
+    ensures { ReadsInPlace (λ c. call_by S.meaning c) (file_set_size args.now) result }
 {
     let (port, size) = pair(args)?;
     Ok(Call::Plain(PlainCall::FileSetSize { port, size }))

@@ -7,7 +7,7 @@ use crate::meet::{Meet, meet_all};
 use crate::pairs::Pairs;
 use hurd_creds::{Attrs, Same};
 use hurd_ports::Opened;
-use hurd_views::{BodyRow, EntryRow, NodeRow, OpenRow, Row, ServerRow, same_attr};
+use hurd_views::{BodyRow, EntryRow, NodeRow, OpenRow, Row, ServerRow, same_attributes};
 use std::alloc::AllocError;
 
 /// Whether attributes are the same but for the parent. Takes no memory.
@@ -15,7 +15,7 @@ fn same_but_parent(attrs: &Attrs, other: &Attrs) -> bool
     ensures { IsTrue result ↔ (with_parent other.now.parent attrs.now ≡ other.now) }
 {
     let parent = other.parent;
-    same_attr(&Attrs { parent, ..*attrs }, other)
+    same_attributes(&Attrs { parent, ..*attrs }, other)
 }
 
 impl Meet for Attrs {

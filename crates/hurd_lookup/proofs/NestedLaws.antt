@@ -1,11 +1,12 @@
 -- What is to be started first is the same in worlds that agree, and is where a walk can be; and how the code finds it.
 use Rattle.std.proofs.Common.{◌≡◌, ◌≢◌, ◌⊎◌, ◌∙◌, ◌<◌, ◌-◌, ℕ, zero, suc, Bool, true, false, true≢false, cond, if◌then◌else◌, ◌&&◌, ◌||◌, not, is_some, codes, length, nat_le, List, [], ◌∷◌, Option, Some, None, refl, sym, ap, ap₂, subst, inl, inr, arith}
-use Rattle.std.specs.Prelude.{Result, Ok, Err, IfSome}
+use Rattle.std.specs.Prelude.{Result, Ok, Err, IfOk, IfSome}
 use Rattle.std.specs.List.{list_all}
 use Rattle.std.specs.Option.{option_map, option_or}
 use Rattle.std.specs.Str.{bytes_eq}
 use Rattle.std.proofs.lemmas.Slice.Eq.{bytes_eq-Decides}
 use Rattle.hurd_machine.proofs.Common.{BodyOf, ENOMEM, Errno, Header, IdSets, Meaning, Name, Node, Seen, Sees, Task, World, header_at, is_no_memory, node_at, task_at, words_at}
+use Rattle.hurd_creds.specs.Memory.{MeetsOr}
 use Rattle.hurd_creds.specs.declared.errno.Errno.TheVariants.{ELOOP}
 use Rattle.hurd_trans_iface.specs.Kinds.Firmlink.{firm_text, is_firm}
 use Rattle.hurd_trans_iface.specs.Kinds.Union.{most_branches, text_of, union_text}
@@ -20,7 +21,7 @@ use Rattle.hurd_machine.proofs.Views.{Agree}
 use Rattle.hurd_lookup.specs.declared.resolve.Landing.{Landing}
 use Rattle.hurd_lookup.specs.declared.resolve.Landing.TheVariants.{Lands, Sleeps}
 use Rattle.hurd_lookup.specs.Ends.{HasWords}
-use Rattle.hurd_lookup.specs.Legs.{FindsLanding}
+use Rattle.hurd_lookup.specs.Legs.{CanStart}
 use Rattle.hurd_lookup.specs.Lent.{lent}
 use Rattle.hurd_lookup.specs.Lookup.{no_ids}
 use Rattle.hurd_lookup.specs.Resolve.{path_end}
@@ -237,17 +238,17 @@ passed_lacks (Err f) e is = by (is_no_memory f) is
     by false k = absurd (cc (k))
 
 -- what waits at the end of a path, by how the path ended
-pub passed_is : (w : World) (wanted r : Result Landing Errno) → FindsLanding w wanted r → (o : Option Name) → passed r ≡ Ok o → (asleep wanted ≡ o) × IfSome o (HasWords w)
-passed_is w wanted (Ok (Lands n)) found o is = let same : None ≡ o = cc (is) in subst (λ (p : Option Name). (asleep wanted ≡ p) × IfSome p (HasWords w)) same (ap asleep found.0, tt)
-passed_is w wanted (Ok (Sleeps n)) found o is = let same : Some n ≡ o = cc (is) in subst (λ (p : Option Name). (asleep wanted ≡ p) × IfSome p (HasWords w)) same (ap asleep found.0, found.1)
-passed_is w wanted (Err e) found o is = by (is_no_memory e) refl is
+pub passed_is : (w : World) (wanted r : Result Landing Errno) → MeetsOr {B = Landing} (Unit {0}) (λ l. l) wanted r → IfOk r (CanStart w) → (o : Option Name) → passed r ≡ Ok o → (asleep wanted ≡ o) × IfSome o (HasWords w)
+passed_is w wanted (Ok (Lands n)) found starts o is = let same : None ≡ o = cc (is) in subst (λ (p : Option Name). (asleep wanted ≡ p) × IfSome p (HasWords w)) same (ap asleep found, tt)
+passed_is w wanted (Ok (Sleeps n)) found starts o is = let same : Some n ≡ o = cc (is) in subst (λ (p : Option Name). (asleep wanted ≡ p) × IfSome p (HasWords w)) same (ap asleep found, starts)
+passed_is w wanted (Err e) found starts o is = by (is_no_memory e) refl is
   where
     by : (b : Bool) → is_no_memory e ≡ b → (let r : Result (Option Name) Errno = if b then Err ENOMEM else Ok None in r) ≡ Ok o → (asleep wanted ≡ o) × IfSome o (HasWords w)
     by true out k = absurd (cc (k))
     by false out k =
         let same : None ≡ o = cc (k) in
         subst (λ (p : Option Name). (asleep wanted ≡ p) × IfSome p (HasWords w)) same
-        (elim found [ inl refused ↦ ap asleep refused | inr lacks ↦ absurd (true≢false (sym (ap is_no_memory lacks) ∙ out)) ], tt)
+        (elim found [ inl refused ↦ ap asleep refused | inr lacks ↦ absurd (true≢false (sym (ap is_no_memory lacks.0) ∙ out)) ], tt)
 
 -- behind one at whose end nothing waits, the others
 pub asleep_later : (w : World) (wanted : Result Landing Errno) (path : List ℕ) (paths : List (List ℕ)) (o : Option Name) (r : Result (Option Name) Errno) → asleep wanted ≡ None → FindsAsleep w paths o r

@@ -1,10 +1,11 @@
 //! Following a path inside the core, to the targets of servers.
-ghost use Rattle.std.specs.Prelude.{◌≡◌, ◌<◌, [], ◌∷◌, IfSome, IsOk, OnOk, length};
+ghost use Rattle.std.specs.Prelude.{◌≡◌, ◌<◌, [], ◌∷◌, IfOk, IfSome, IsOk, OnOk, length};
+ghost use Rattle.hurd_creds.specs.Memory.{MeetsOr};
 ghost use Rattle.hurd_ports.specs.Limits.{most_parents};
 ghost use Rattle.hurd_core.specs.Core.{world_of};
 ghost use Rattle.hurd_lookup.specs.Ends.{CanEnd, authority_of, name_of, outcome_of, port_by, way_of};
 ghost use Rattle.hurd_lookup.specs.Resolve.{from_top, landed, path_end, leg_asks, leg_at, resolve, resolve_all};
-ghost use Rattle.hurd_lookup.specs.Legs.{FindsLanding, Leads, MeetsOr, leg_of};
+ghost use Rattle.hurd_lookup.specs.Legs.{CanStart, Leads, leg_of};
 
 use crate::authority::{Authority, NewPort};
 use crate::end::Outcome;
@@ -150,7 +151,8 @@ pub(crate) fn path_end<S: Server>(
     ids: &Ids,
     path: &[u8],
 ) -> Result<Landing, Errno>
-    ensures { let w = world_of S.meaning core.now in FindsLanding w (path_end w ids.now path.now) result }
+    ensures found { MeetsOr (Unit {0}) (λ l. l) (path_end (world_of S.meaning core.now) ids.now path.now) result }
+    ensures starts { IfOk result (CanStart (world_of S.meaning core.now)) }
 {
     let mut leg = from_top(alloc, path)?;
     let mut left = MOST_LOOKS;

@@ -234,6 +234,7 @@ fn go_back<'a, S: Server>(
 ///
 /// Errors, in order: `EEXIST` it is the last, and refused where it is there, those of `cross`.
 #[tactic(auto, unfolding(hurd_machine::specs::Plan::given))]
+#[inline(always)]
 fn over<'a, S: Server>(
     core: &Core<S>,
     authority: Authority,

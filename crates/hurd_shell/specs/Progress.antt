@@ -10,9 +10,9 @@ use Rattle.hurd_world.specs.Noting.{State, NotesWhatIsTouched}
 use Rattle.hurd_shell.specs.declared.fault.Stop.{Stop}
 use Rattle.hurd_shell.specs.declared.fault.Stop.TheVariants.{Refused, Memory}
 use Rattle.hurd_shell.specs.declared.looking.TurnEnd.{TurnEnd}
-use Rattle.hurd_shell.specs.declared.looking.TurnEnd.TheVariants as outcome
+use Rattle.hurd_shell.specs.declared.looking.TurnEnd.TheVariants as turn
 use Rattle.hurd_shell.specs.declared.looking.LookingEnd.{LookingEnd}
-use Rattle.hurd_shell.specs.declared.looking.LookingEnd.TheVariants as found
+use Rattle.hurd_shell.specs.declared.looking.LookingEnd.TheVariants as ending
 use Rattle.hurd_shell.specs.declared.looking.Target.{Target}
 use Rattle.hurd_shell.specs.Programs.{Prog, gives, closing, go}
 use Rattle.hurd_shell.specs.Looking.{Opener, look, starting}
@@ -57,14 +57,14 @@ opening opener target = opener target.dir target.name
 
 -- what is left of an opening after a turn
 abbrev pub opening_on : Opener → TurnEnd → Prog ℕ
-opening_on opener (outcome.Opened p) = gives (Ok p)
-opening_on opener (outcome.Onward target) = opening opener target
-opening_on opener (outcome.Starts words target) = starting (opening opener target) words
+opening_on opener (turn.Opened p) = gives (Ok p)
+opening_on opener (turn.Onward target) = opening opener target
+opening_on opener (turn.Starts words target) = starting (opening opener target) words
 
 -- what is left of an opening that has found its node, or a translator that is to be started
 abbrev pub found_on : OpenFlags → LookingEnd → Prog ℕ
-found_on flags (found.Opened p) = gives (Ok p)
-found_on flags (found.Starts words left target) = starting (opening (look left flags) target) words
+found_on flags (ending.Opened p) = gives (Ok p)
+found_on flags (ending.Starts words left target) = starting (opening (look left flags) target) words
 
 -- where a program of task t comes to, with ports to give up: to what is left where the code goes on, or to a refusal
 abbrev pub ComesTo : {B : Type 0} → ℕ → Prog ℕ → State → (B → Prog ℕ) → List ℕ → Result B Stop → State → Type 0

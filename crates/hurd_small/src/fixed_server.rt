@@ -15,7 +15,7 @@ use hurd_creds::{Bytes, Errno};
 use hurd_trans_iface::{Begun, Words, begun_by};
 use std::alloc::{AllocError, Global};
 
-/// A server of one node of which nothing but options changes, of one of six kinds.
+/// A server of one node of which nothing but options changes.
 pub type FixedServer = Lone<Still<Fixed>>;
 
 /// The kind and the text that words say, lent; none where they make a server of another kind.

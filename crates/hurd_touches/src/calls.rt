@@ -30,14 +30,14 @@ impl Noted {
         ensures { Adds (touches (world_of S.meaning core.now) task.0 (call_by S.meaning call.now)) self.old self.new }
     {
         match call {
-            Call::Plain(call) => self.add_touched_by(core, task, call),
+            Call::Plain(call) => self.add_touched_plainly(core, task, call),
             Call::FsysStartup { .. } => self.add_started(core, task),
             Call::FileSetTranslator { .. } => self.add_all(),
         }
     }
 
     /// The same of a call that brings no server.
-    fn add_touched_by<S: Server>(&mut self, core: &Core<S>, task: TaskId, call: &PlainCall)
+    fn add_touched_plainly<S: Server>(&mut self, core: &Core<S>, task: TaskId, call: &PlainCall)
         ensures { Adds (touches (world_of S.meaning core.now) task.0 (Variants.Plain call.now)) self.old self.new }
     {
         match call {

@@ -190,14 +190,14 @@ fn same_attrs(attrs: &Option<Attrs>, other: &Option<Attrs>) -> bool
     ensures { IsTrue result ↔ (attrs.now ≡ other.now) }
 {
     match (attrs, other) {
-        (Some(attrs), Some(other)) => same_attr(attrs, other),
+        (Some(attrs), Some(other)) => same_attributes(attrs, other),
         (None, None) => true,
         _ => false,
     }
 }
 
 /// Whether these are the same attributes.
-pub fn same_attr(attrs: &Attrs, other: &Attrs) -> bool
+pub fn same_attributes(attrs: &Attrs, other: &Attrs) -> bool
     ensures { IsTrue result ↔ (attrs.now ≡ other.now) }
 {
     same_access(attrs, other) && same_place(attrs, other) && same_marks(attrs, other)

@@ -6,7 +6,7 @@ use Rattle.std.proofs.lemmas.Result.{err_from_is_err_and}
 use Rattle.hurd_machine.proofs.Common.{EBUSY, Errno, IdSets, Name, task_at}
 use Rattle.hurd_core.specs.Core.{world_of}
 use Rattle.hurd_lookup.specs.Lent.{lent}
-use Rattle.hurd_lookup.specs.Legs.{MeetsOr}
+use Rattle.hurd_creds.specs.Memory.{MeetsOr}
 use Rattle.hurd_fsys.specs.Aims.{HasTargets, aims_asks}
 use Rattle.hurd_lookup.proofs.RoomLaws.{ids_had, ids_not}
 use Rattle.hurd_fsys.proofs.starting.start_aims.Goals as goal

@@ -16,7 +16,7 @@ returns-in_err-outcome-in-Absent g c =
     let p = err_from_is_err_and c.from_residual-in_err-outcome-in-Absent.result c.from_residual-in_err-outcome-in-Absent.ensures.1 in
     let asked = rw c.in-Absent.is at c.in_ok-node.ensures in
     let missed = rw c.is_last.ensures at c.in_err-outcome-in-Absent.ensures in
-    rw (p.1, p.2) (λ onward. step_is w q c.args.request c.args.here.node c.args.name.now (names_in c.args.rest.now) Absent asked onward ∙ missed)
+    rw (p.1, p.2) (λ onward. step_is w q c.args.request c.args.here.now.node c.args.name.now (names_in c.args.rest.now) Absent asked onward ∙ missed)
 
 pub returns-in_ok-outcome-in-Absent : goal.returns-in_ok-outcome-in-Absent
 returns-in_ok-outcome-in-Absent g c =
@@ -24,7 +24,7 @@ returns-in_ok-outcome-in-Absent g c =
     let q = authority_of c.args.authority in
     let asked = rw c.in-Absent.is at c.in_ok-node.ensures in
     let missed = rw c.is_last.ensures at c.in_ok-outcome-in-Absent.ensures in
-    (λ onward. step_is w q c.args.request c.args.here.node c.args.name.now (names_in c.args.rest.now) Absent asked onward ∙ missed.0, missed.1)
+    (λ onward. step_is w q c.args.request c.args.here.now.node c.args.name.now (names_in c.args.rest.now) Absent asked onward ∙ missed.0, missed.1)
 
 pub returns-in-Branch : goal.returns-in-Branch
 returns-in-Branch g c =
@@ -32,4 +32,4 @@ returns-in-Branch g c =
     let q = authority_of c.args.authority in
     let asked = rw c.in-Branch.is at c.in_ok-node.ensures in
     let into = rw c.requires.names at (c.go_into.ensures.outcome w q) in
-    (λ onward. step_is w q c.args.request c.args.here.node c.args.name.now (names_in c.args.rest.now) (Branch c.in-Branch.branch) asked onward ∙ ap Ok (sym into), c.go_into.ensures.can w q)
+    (λ onward. step_is w q c.args.request c.args.here.now.node c.args.name.now (names_in c.args.rest.now) (Branch c.in-Branch.branch) asked onward ∙ ap Ok (sym into), c.go_into.ensures.can w q)

@@ -7,21 +7,21 @@ use Rattle.hurd_lookup.specs.Ends.{authority_of}
 use Rattle.hurd_lookup.specs.Lookup.{walk}
 use Rattle.hurd_lookup.proofs.walk.walk.Goals as goal
 
-pub returns-in_err-node : goal.returns-in_err-node
-returns-in_err-node g c =
+pub returns-in_err-outcome : goal.returns-in_err-outcome
+returns-in_err-outcome g c =
     let w = world_of g.S.Server.meaning c.args.core.now in
     let q = authority_of c.args.authority in
     let p = err_from_is_err_and c.from_residual.result c.from_residual.ensures.1 in
     rw (p.1, p.2)
     (sym c.loop-name.invariant.0
     ∙ ap (walk w q c.args.request c.loop-name.here.node) c.in-Some.ensures.0
-    ∙ c.in_err-node.ensures (λ n. walk w q c.args.request n (names_in c.in-Some.after.now)))
+    ∙ c.in_err-outcome.ensures (λ n. walk w q c.args.request n (names_in c.in-Some.after.now)))
 
-pub returns-in-Some : goal.returns-in-Some
-returns-in-Some g c =
+pub returns-in-Some-2 : goal.returns-in-Some-2
+returns-in-Some-2 g c =
     let w = world_of g.S.Server.meaning c.args.core.now in
     let q = authority_of c.args.authority in
-    let goes = rw c.in-Some.is at c.in_ok-node.ensures in (
+    let goes = rw c.in-Some-2.is at c.in_ok-outcome.ensures in (
       sym c.loop-name.invariant.0
           ∙ ap (walk w q c.args.request c.loop-name.here.node) c.in-Some.ensures.0
           ∙ goes.0 (λ n. walk w q c.args.request n (names_in c.in-Some.after.now)),
@@ -32,7 +32,7 @@ pub loop-name-preserved : goal.loop-name-preserved
 loop-name-preserved g c =
     let w = world_of g.S.Server.meaning c.args.core.now in
     let q = authority_of c.args.authority in
-    let goes = rw c.in-On.is at c.in_ok-node.ensures in (
+    let goes = rw c.in_default-2.is at c.in_ok-outcome.ensures in (
       sym (goes.0 (λ n. walk w q c.args.request n (names_in c.in-Some.after.now)))
           ∙ sym (ap (walk w q c.args.request c.loop-name.here.node) c.in-Some.ensures.0)
           ∙ c.loop-name.invariant.0,

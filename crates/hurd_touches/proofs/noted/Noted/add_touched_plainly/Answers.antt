@@ -5,7 +5,7 @@ use Rattle.hurd_files.specs.Access.{gives}
 use Rattle.hurd_touches.proofs.AddsLaws.{adds_less}
 use Rattle.hurd_touches.proofs.EntryLaws.{link_ports, mkdir_port, mkfile_port, rename_ports, rmdir_port, unlink_port}
 use Rattle.hurd_touches.proofs.PortLaws.{deallocate_port, openmodes_port, read_port, seek_port, send_port, set_size_port, setting_port, share_port, write_port}
-use Rattle.hurd_touches.proofs.noted.Noted.add_touched_by.Goals as goal
+use Rattle.hurd_touches.proofs.noted.Noted.add_touched_plainly.Goals as goal
 
 pub returns-in-PortDeallocate : goal.returns-in-PortDeallocate
 returns-in-PortDeallocate g c = rw c.in-PortDeallocate.is (adds_less _ _ _ _ c.add_deallocated.ensures (deallocate_port (world_of g.S.Server.meaning c.args.core.now) c.args.task.0 c.in-PortDeallocate.port))
