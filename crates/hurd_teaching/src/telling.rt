@@ -29,7 +29,8 @@ pub fn look_before<S: Server>(
     quiet: bool,
 ) -> Result<(), AllocError>
     requires { SeenOf learners.now.tasks.items (world_of S.meaning world.now) watch.old.seen }
-    ensures { OnOk result (quiet ≡ false → Sees learners.now.tasks.items (world_of S.meaning world.now) watch.new.seen) }
+    ensures sees { OnOk result (quiet ≡ false → Sees learners.now.tasks.items (world_of S.meaning world.now) watch.new.seen) }
+    ensures kept { OnOk result (quiet ≡ true → watch.new ≡ watch.old) }
 {
     if !quiet {
         watch.look(alloc, world, learners.tasks.as_slice())?;
