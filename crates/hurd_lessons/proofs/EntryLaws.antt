@@ -2,7 +2,7 @@
 use Rattle.std.proofs.Common.{◌≡◌, ◌∙◌, refl, sym, ap, ℕ, ◌+◌, ◌≤◌, List, [], ◌∷◌, ◌++◌, append_assoc, append-nil, drop, drop-drop, length, Some, if◌then◌else◌, slice_get}
 use Rattle.std.specs.Prelude.{Bool, true}
 use Rattle.std.proofs.lemmas.List.{drop_all}
-use Rattle.hurd_sentences.specs.Spelling.{spelled_name}
+use Rattle.hurd_words.specs.Spelling.{spelled_name}
 use Rattle.hurd_views.specs.declared.rows.EntryRow.{EntryRow}
 use Rattle.hurd_lessons.specs.Differences.{comes_next, entries_gone, entries_new, passed, signed_names}
 use Rattle.hurd_lessons.proofs.LineLaws.{here}

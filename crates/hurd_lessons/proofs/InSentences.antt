@@ -20,10 +20,10 @@ use Rattle.hurd_ports.specs.declared.table.Port.{Port}
 use Rattle.hurd_lessons.specs.declared.seen_parts.Reads.{Reads}
 use Rattle.hurd_lessons.specs.declared.seen_parts.Reads.TheVariants as reads
 use Rattle.hurd_creds.specs.declared.name.TaskId.{TaskId}
-use Rattle.hurd_sentences.specs.Sentences.{InSentences, is_letter, is_word}
-use Rattle.hurd_sentences.specs.Spelling.{spelled, spelled_name, spelled_words}
-use Rattle.hurd_sentences.proofs.ClauseLaws.{IsClauseText, both_fit, both_sentences, clause_more, clause_of_part, fits, no_sentences, one_clause, three_clauses, two_clauses, word_fits}
-use Rattle.hurd_sentences.proofs.WordLaws.{decimal_is_word, octal_is_letter, spelled_is_word}
+use Rattle.hurd_words.specs.Sentences.{InSentences, is_letter, is_word}
+use Rattle.hurd_words.specs.Spelling.{spelled, spelled_name, spelled_words}
+use Rattle.hurd_words.proofs.ClauseLaws.{IsClauseText, both_fit, both_sentences, clause_more, clause_of_part, fits, no_sentences, one_clause, three_clauses, two_clauses, word_fits}
+use Rattle.hurd_words.proofs.WordLaws.{decimal_is_word, octal_is_letter, spelled_is_word}
 use Rattle.hurd_views.specs.Marks.{text_mark}
 use Rattle.hurd_views.specs.Views.{row_at}
 use Rattle.hurd_views.specs.declared.rows.BodyRow.{BodyRow}

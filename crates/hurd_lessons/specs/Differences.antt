@@ -5,7 +5,7 @@ use Rattle.hurd_creds.specs.declared.attrs.Attrs.{Attrs}
 use Rattle.hurd_creds.specs.declared.name.Name.{Name}
 use Rattle.hurd_ports.specs.declared.table.Ends.{Ends}
 use Rattle.hurd_ports.specs.declared.table.Opened.{Opened}
-use Rattle.hurd_sentences.specs.Spelling.{spelled_name}
+use Rattle.hurd_words.specs.Spelling.{spelled_name}
 use Rattle.hurd_views.specs.declared.rows.BodyRow.{BodyRow}
 use Rattle.hurd_views.specs.declared.rows.BodyRow.TheVariants as body
 use Rattle.hurd_views.specs.declared.rows.EntryRow.{EntryRow}

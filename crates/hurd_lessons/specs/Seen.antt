@@ -11,7 +11,7 @@ use Rattle.hurd_creds.specs.declared.name.Name.{Name}
 use Rattle.hurd_creds.specs.declared.name.TaskId.{TaskId}
 use Rattle.hurd_creds.specs.declared.open_flags.OpenFlags.{OpenFlags}
 use Rattle.hurd_words.specs.Printing.{spaced, stat_words, text_if}
-use Rattle.hurd_sentences.specs.Spelling.{spelled, spelled_name, spelled_words}
+use Rattle.hurd_words.specs.Spelling.{spelled, spelled_name, spelled_words}
 use Rattle.hurd_ports.specs.Tables.{Task}
 use Rattle.hurd_ports.specs.declared.table.Ends.{Ends}
 use Rattle.hurd_ports.specs.declared.table.Opened.{Opened}

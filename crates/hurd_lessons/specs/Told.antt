@@ -7,8 +7,8 @@ use Rattle.hurd_machine.specs.World.{World}
 use Rattle.hurd_sight.specs.Reach.{among}
 use Rattle.hurd_views.specs.Views.{Views}
 use Rattle.hurd_views.specs.declared.view.View.{View}
-use Rattle.hurd_sentences.specs.Sentences.{InSentences}
-use Rattle.hurd_sentences.specs.Turns.{paragraph}
+use Rattle.hurd_words.specs.Sentences.{InSentences}
+use Rattle.hurd_words.specs.Turns.{paragraph}
 use Rattle.hurd_lessons.specs.Lessons.{Lessons}
 use Rattle.hurd_lessons.specs.Seen.{seen_text}
 use Rattle.hurd_lessons.specs.declared.tally.Tally.{Tally}

@@ -3,7 +3,7 @@ use Rattle.std.specs.Prelude.{ℕ, ◌/◌, ◌==◌, ◌&&◌, Bool, true, fals
 use Rattle.hurd_creds.specs.declared.attrs.Kind.{Kind}
 use Rattle.hurd_creds.specs.declared.name.Name.{Name}
 use Rattle.hurd_words.specs.Printing.{kind_letter, octal_digit, six_octal_digits, spaced}
-use Rattle.hurd_sentences.specs.Spelling.{spelled, spelled_words}
+use Rattle.hurd_words.specs.Spelling.{spelled, spelled_words}
 use Rattle.hurd_views.specs.declared.view.View.{View}
 use Rattle.hurd_places.specs.Places.{node_path, server_path}
 

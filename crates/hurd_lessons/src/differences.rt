@@ -1,7 +1,7 @@
 //! What became of the parts that are seen under a name, in words.
 ghost use Rattle.std.specs.Prelude.{◌≡◌, ◌++◌, ◌≤◌, ◌+◌, ◌∷◌, [], codes, drop, if◌then◌else◌, IfOk, OnOk, Some};
 ghost use Rattle.hurd_lessons.specs.Differences.{body_change, changed_attrs, changed_body, changed_node, changed_open, changed_opened, changed_server, comes_next, empty_change, ends_change, entries_gone, entries_new, modes_or_none, modes_part, noted, number_change, parent_at, passed, same_entry, server_change, text_change, signed_names};
-ghost use Rattle.hurd_sentences.specs.Spelling.{spelled_name};
+ghost use Rattle.hurd_words.specs.Spelling.{spelled_name};
 ghost use Rattle.hurd_lessons.specs.Seen.{places_text, program_text, uid_text};
 ghost use Rattle.hurd_lessons.specs.Lessons.{body_word, emptiness, ends_beside, is_listing, or_changed, parts_of, said_of};
 ghost use Rattle.hurd_lessons.specs.Values.{turned_part, with_part};
@@ -14,8 +14,8 @@ use crate::values::{
 };
 use hurd_creds::{Attrs, NodeName};
 use hurd_ports::{Ends, Opened};
-use hurd_sentences::push_name;
 use hurd_views::{BodyRow, EntryRow, NodeRow, OpenRow, Row, ServerRow, TextRow, View};
+use hurd_words::spelling::push_spelled_name;
 use std::alloc::{AllocError, Global};
 
 /// What stands behind a part that is no longer seen.
@@ -156,7 +156,7 @@ fn push_signed(words: &mut Vec<u8>, sign: &[u8], entry: &EntryRow) -> Result<(),
     ensures { OnOk result (words.new.items ≡ words.old.items ++ (sign.now ++ spelled_name entry.now.name)) }
 {
     words.extend_from_slice(sign)?;
-    push_name(words, entry.name.as_slice())
+    push_spelled_name(words, entry.name.as_slice())
 }
 
 /// Adds names, each behind a sign.

@@ -10,9 +10,9 @@ use crate::values::{add_part, part, push_all_words, push_bytes};
 use hurd_creds::{Bytes, Ids, Name, NodeName, OpenFlags, ServerName};
 use hurd_places::{node_path, server_path};
 use hurd_ports::Ends;
-use hurd_sentences::{push_name, push_word, push_words};
 use hurd_views::{BodyRow, EntryRow, NodeRow, OpenRow, Row, ServerRow, TextRow, View};
 use hurd_words::printing::{push_if, push_long_number, push_number, push_stat};
+use hurd_words::spelling::{push_spelled, push_spelled_name, push_spelled_words};
 use itoa::Buffer;
 use std::alloc::{AllocError, Global};
 
@@ -50,7 +50,7 @@ fn push_passive(words: &mut Vec<u8>, passive: &[Bytes]) -> Result<(), AllocError
         return Ok(());
     }
     words.extend_from_slice(b" passive")?;
-    push_words(words, passive)
+    push_spelled_words(words, passive)
 }
 
 /// Adds a node's attributes and the words of its passive translator.
@@ -165,7 +165,7 @@ fn push_entries(words: &mut Vec<u8>, entries: &[EntryRow]) -> Result<(), AllocEr
 {
     for entry in entries {
         words.push(b' ')?;
-        push_name(words, entry.name.as_slice())?;
+        push_spelled_name(words, entry.name.as_slice())?;
     }
     Ok(())
 }
@@ -191,7 +191,7 @@ fn push_content(words: &mut Vec<u8>, bytes: &[u8]) -> Result<(), AllocError>
         return Ok(());
     }
     words.extend_from_slice(b"bytes ")?;
-    push_word(words, bytes)
+    push_spelled(words, bytes)
 }
 
 /// Adds entries by their names, or bytes.
@@ -315,7 +315,7 @@ fn push_marked(words: &mut Vec<u8>, mark: &[u8], text: &[u8]) -> Result<(), Allo
     }
     words.push(b' ')?;
     words.extend_from_slice(mark)?;
-    push_word(words, text)
+    push_spelled(words, text)
 }
 
 /// The program of a server, and behind it a link's text, or the word that says a tree's limit.

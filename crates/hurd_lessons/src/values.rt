@@ -5,9 +5,9 @@ ghost use Rattle.hurd_lessons.specs.Values.{bytes_change, kind_part, mode_part, 
 use bitflags::Flags;
 use hurd_creds::{Bytes, Kind, Mode, NodeName, ServerName};
 use hurd_places::{node_path, server_path};
-use hurd_sentences::{push_word, push_words};
 use hurd_views::View;
 use hurd_words::printing::{kind_letter, octal_digit, push_long_number, push_mode};
+use hurd_words::spelling::{push_spelled, push_spelled_words};
 use std::alloc::{AllocError, Global};
 
 /// What stands for a value that isn't there.
@@ -124,7 +124,7 @@ pub(crate) fn push_bytes(words: &mut Vec<u8>, bytes: &[u8]) -> Result<(), AllocE
     if bytes.is_empty() {
         return words.extend_from_slice(NONE);
     }
-    push_word(words, bytes)
+    push_spelled(words, bytes)
 }
 
 /// Adds words as they are spelled, or that there are none.
@@ -133,8 +133,8 @@ pub(crate) fn push_all_words(text: &mut Vec<u8>, words: &[Bytes]) -> Result<(), 
 {
     match words.split_first() {
         Some((first, rest)) => {
-            push_word(text, first.as_slice())?;
-            push_words(text, rest)
+            push_spelled(text, first.as_slice())?;
+            push_spelled_words(text, rest)
         }
         None => text.extend_from_slice(NONE),
     }

@@ -2,7 +2,7 @@
 use Rattle.std.specs.Prelude.{◌≡◌, ℕ, List, ◌++◌, Option, Some, None, codes}
 use Rattle.hurd_creds.specs.declared.name.TaskId.{TaskId}
 use Rattle.hurd_machine.specs.World.{World}
-use Rattle.hurd_sentences.specs.Marks.{marked}
+use Rattle.hurd_words.specs.Marks.{marked}
 use Rattle.hurd_sight.specs.Reach.{among}
 use Rattle.hurd_views.specs.Views.{Views}
 use Rattle.hurd_views.specs.declared.view.View.{View}

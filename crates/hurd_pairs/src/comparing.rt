@@ -12,9 +12,9 @@ use hurd_creds::Bytes;
 use hurd_dialogue::Telling;
 use hurd_lessons::lessons;
 use hurd_looks::look_alike;
-use hurd_sentences::push_marked;
 use hurd_teaching::{Learners, view_of};
 use hurd_trans_iface::Server;
+use hurd_words::marks::push_marked;
 use hurd_world::World;
 use std::alloc::{AllocError, Global};
 

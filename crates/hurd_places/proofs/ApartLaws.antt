@@ -7,7 +7,7 @@ use Rattle.hurd_sight.specs.declared.found.Why.{Why}
 use Rattle.hurd_sight.specs.declared.found.Why.TheVariants as why
 use Rattle.hurd_views.specs.declared.view.View.{View}
 use Rattle.hurd_places.specs.Places.{beneath, is_covered, level_along, level_by, covered_path, or_root, path_along, step_by}
-use Rattle.hurd_sentences.proofs.Bytes.{first_same}
+use Rattle.hurd_words.proofs.Bytes.{first_same}
 use Rattle.hurd_places.proofs.PlaceLaws.{level_most}
 use Rattle.hurd_places.proofs.StepLaws.{IsLast, OfActive, OfRoot, OfStem, Sort, beneath_kind, beneath_last, beneath_once, cut_same, front, is_last, is_stem, kind, kind_small, last, last_kind, not_slash, one_why, sort, split, stem_level, tag}
 

@@ -3,10 +3,10 @@ use Rattle.std.proofs.Common.{◌≡◌, ◌⊎◌, inl, inr, ◌∙◌, refl, s
 use Rattle.std.proofs.lemmas.Bool.{and_from, and_parts, cases_Bool, eqb-true}
 use Rattle.hurd_creds.specs.declared.name.Name.{Name}
 use Rattle.hurd_words.specs.Printing.{spaced}
-use Rattle.hurd_sentences.specs.Sentences.{is_letter, is_word}
-use Rattle.hurd_sentences.specs.Spelling.{spelled_name}
-use Rattle.hurd_sentences.proofs.Bytes.{all_first, all_rest, first_same}
-use Rattle.hurd_sentences.proofs.WordLaws.{spelled_is_word}
+use Rattle.hurd_words.specs.Sentences.{is_letter, is_word}
+use Rattle.hurd_words.specs.Spelling.{spelled_name}
+use Rattle.hurd_words.proofs.Bytes.{all_first, all_rest, first_same}
+use Rattle.hurd_words.proofs.WordLaws.{spelled_is_word}
 use Rattle.hurd_sight.specs.Found.{why_of}
 use Rattle.hurd_sight.specs.declared.found.Why.{Why}
 use Rattle.hurd_sight.specs.declared.found.Why.TheVariants as why

@@ -5,9 +5,9 @@ use Rattle.std.specs.List.{list_all}
 use Rattle.std.proofs.lemmas.Bool.{and_from, cases_Bool, ltb-true as below, ltb-false as above, ne_eqb, not_from_false, not_from_true, or_from, or_parts}
 use Rattle.hurd_words.specs.Escapes.{escaped_byte, hex_letter}
 use Rattle.hurd_words.specs.Printing.{spaced}
-use Rattle.hurd_sentences.specs.Spelling.{by_number, is_joint, spelled_by, spelled_byte, spelled_name}
-use Rattle.hurd_sentences.proofs.Bytes.{all_both, all_first, all_rest, first_same}
-use Rattle.hurd_sentences.proofs.SpellingLaws.{more_bytes, no_bytes}
+use Rattle.hurd_words.specs.Spelling.{by_number, is_joint, spelled_by, spelled_byte, spelled_name}
+use Rattle.hurd_words.proofs.Bytes.{all_both, all_first, all_rest, first_same}
+use Rattle.hurd_words.proofs.SpellingLaws.{more_bytes, no_bytes}
 
 -- a byte with which a step begins: a slash, or a bracket that opens
 abbrev pub is_cut : ℕ → Bool

@@ -2,9 +2,9 @@
 use Rattle.std.proofs.Common.{◌≡◌, refl, ℕ, ◌==◌, Bool, true, false, List, [], ◌∷◌, ◌++◌, Option, Some, None, codes, decimal, is_some, if◌then◌else◌}
 use Rattle.hurd_creds.specs.declared.name.Name.{Name}
 use Rattle.hurd_words.specs.Printing.{spaced, text_if}
-use Rattle.hurd_sentences.specs.Spelling.{spelled_name}
-use Rattle.hurd_sentences.proofs.ClauseLaws.{both_fit, fits, word_fits}
-use Rattle.hurd_sentences.proofs.WordLaws.{decimal_is_word, spelled_is_word}
+use Rattle.hurd_words.specs.Spelling.{spelled_name}
+use Rattle.hurd_words.proofs.ClauseLaws.{both_fit, fits, word_fits}
+use Rattle.hurd_words.proofs.WordLaws.{decimal_is_word, spelled_is_word}
 use Rattle.hurd_sight.specs.Found.{why_of}
 use Rattle.hurd_sight.specs.declared.found.Why.{Why}
 use Rattle.hurd_sight.specs.declared.found.Why.TheVariants as why

@@ -13,9 +13,9 @@ use Rattle.hurd_ports.specs.declared.table.PendingStart.{PendingStart}
 use Rattle.hurd_ports.specs.declared.table.Port.{Port}
 use Rattle.hurd_ports.specs.declared.table.Right.{Right}
 use Rattle.hurd_machine.specs.World.{World, IsAmong, task_at}
-use Rattle.hurd_sentences.specs.Sentences.{is_letter}
-use Rattle.hurd_sentences.proofs.Bytes.{all_weaker, cut, first_same, is_other}
-use Rattle.hurd_sentences.proofs.WordLaws.{decimal_is_word}
+use Rattle.hurd_words.specs.Sentences.{is_letter}
+use Rattle.hurd_words.proofs.Bytes.{all_weaker, cut, first_same, is_other}
+use Rattle.hurd_words.proofs.WordLaws.{decimal_is_word}
 use Rattle.hurd_places.specs.Places.{holder_word, is_wanted, label_in, label_of_task, label_of_tasks, label_text, port_wanted, sent_wanted}
 use Rattle.hurd_places.specs.declared.labels.Holder.{Holder}
 use Rattle.hurd_places.specs.declared.labels.Holder.TheVariants as holder

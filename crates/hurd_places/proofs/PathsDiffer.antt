@@ -29,7 +29,7 @@ use Rattle.hurd_ports.specs.declared.table.IoRight.{IoRight}
 use Rattle.hurd_ports.specs.declared.table.Right.{Right}
 use Rattle.hurd_ports.specs.declared.table.Right.TheVariants.{Io, Control, Start}
 use Rattle.hurd_machine.specs.Sight.{Holds}
-use Rattle.hurd_sentences.proofs.Bytes.{first_same}
+use Rattle.hurd_words.proofs.Bytes.{first_same}
 use Rattle.std.proofs.lemmas.Bool.{eqb-true}
 use Rattle.std.proofs.lemmas.List.{append_cancel_right}
 use Rattle.hurd_places.proofs.TargetLaws.{target_once}

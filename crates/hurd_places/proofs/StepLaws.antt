@@ -5,9 +5,9 @@ use Rattle.std.proofs.lemmas.Fmt.{decimal_injective}
 use Rattle.std.proofs.lemmas.List.{append_cancel_left, append_cancel_right}
 use Rattle.hurd_creds.specs.declared.name.Name.{Name}
 use Rattle.hurd_words.specs.Printing.{spaced, text_if}
-use Rattle.hurd_sentences.specs.Spelling.{spelled_name}
-use Rattle.hurd_sentences.proofs.Bytes.{all_both, first_same}
-use Rattle.hurd_sentences.proofs.SpellsBack.{spells_back}
+use Rattle.hurd_words.specs.Spelling.{spelled_name}
+use Rattle.hurd_words.proofs.Bytes.{all_both, first_same}
+use Rattle.hurd_words.proofs.SpellsBack.{spells_back}
 use Rattle.hurd_sight.specs.Found.{found_from}
 use Rattle.hurd_sight.specs.declared.found.Why.{Why}
 use Rattle.hurd_sight.specs.declared.found.Why.TheVariants as why

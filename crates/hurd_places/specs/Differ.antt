@@ -8,7 +8,7 @@ use Rattle.hurd_machine.specs.Sight.{Knows}
 use Rattle.hurd_machine.specs.Sound.{Sound}
 use Rattle.hurd_machine.specs.World.{World, ports_of, server_at}
 use Rattle.hurd_ports.specs.Sound.{IsSound}
-use Rattle.hurd_sentences.specs.Sentences.{is_fit}
+use Rattle.hurd_words.specs.Sentences.{is_fit}
 use Rattle.hurd_sight.specs.Found.{is_found}
 use Rattle.hurd_sight.specs.Parts.{is_in}
 use Rattle.hurd_sight.specs.Reach.{among}

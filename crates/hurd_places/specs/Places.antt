@@ -11,7 +11,7 @@ use Rattle.hurd_ports.specs.declared.table.IoRight.{IoRight}
 use Rattle.hurd_ports.specs.declared.table.Port.{Port}
 use Rattle.hurd_ports.specs.declared.table.Right.{Right}
 use Rattle.hurd_ports.specs.declared.table.Right.TheVariants.{Io, Control, Start}
-use Rattle.hurd_sentences.specs.Spelling.{spelled_name}
+use Rattle.hurd_words.specs.Spelling.{spelled_name}
 use Rattle.hurd_sight.specs.Found.{found_from, why_of}
 use Rattle.hurd_sight.specs.declared.found.Why.{Why}
 use Rattle.hurd_sight.specs.declared.found.Why.TheVariants as why

@@ -7,10 +7,10 @@ ghost use Rattle.hurd_places.specs.Places.{beneath, count_to, entry_name, is_ali
 use crate::labels::{Wanted, push_label_or};
 use crate::servers::{is_covered, target_at};
 use hurd_creds::NodeName;
-use hurd_sentences::push_name;
 use hurd_sight::{Found, Why};
 use hurd_views::{BodyRow, EntryRow, View};
 use hurd_words::printing::push_number;
+use hurd_words::spelling::push_spelled_name;
 use std::alloc::{AllocError, Global};
 
 /// What stands for a name that isn't seen, and for a node.
@@ -75,7 +75,7 @@ fn push_name_text(text: &mut Vec<u8>, name: &[u8]) -> Result<(), AllocError>
     if name.is_empty() {
         return text.extend_from_slice(UNSEEN);
     }
-    push_name(text, name)
+    push_spelled_name(text, name)
 }
 
 /// Adds what an entry of a directory adds to the path of its node.

@@ -8,7 +8,7 @@ use Rattle.hurd_sight.specs.Reach.{among}
 use Rattle.hurd_views.specs.declared.view.View.{View}
 use Rattle.hurd_dialogue.specs.Parts.{Part, world_behind}
 use Rattle.hurd_calls.specs.Making.{after_call, part_of, parts_of}
-use Rattle.hurd_sentences.specs.Turns.{paragraph}
+use Rattle.hurd_words.specs.Turns.{paragraph}
 use Rattle.hurd_lessons.specs.Told.{Lesson, Said}
 use Rattle.hurd_teaching.specs.Learners.{is_quiet}
 use Rattle.hurd_teaching.specs.Lessons.{LessonsOf, told_text}

@@ -7,7 +7,7 @@ use Rattle.hurd_creds.specs.declared.name.TaskId.{TaskId}
 use Rattle.hurd_machine.specs.World.{World}
 use Rattle.hurd_dialogue.specs.Parts.{Part, texts}
 use Rattle.hurd_dialogue.specs.Sorts.{Sort, last_world}
-use Rattle.hurd_sentences.specs.Turns.{paragraph}
+use Rattle.hurd_words.specs.Turns.{paragraph}
 use Rattle.hurd_lessons.specs.Told.{Said, last_line, printed, tally_from}
 use Rattle.hurd_lessons.proofs.OneLesson.{lesson_is_one, seen_is_one}
 use Rattle.hurd_terminal.specs.Faults.{IsFront}

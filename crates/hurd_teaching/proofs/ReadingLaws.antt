@@ -3,11 +3,11 @@ use Rattle.std.proofs.Common.{◌≡◌, ◌∙◌, inl, inr, refl, sym, ap, ℕ
 use Rattle.std.proofs.lemmas.Bool.{cases_Bool, eqb-true, not_from_false}
 use Rattle.std.proofs.lemmas.List.{append_cancel_left}
 use Rattle.hurd_creds.specs.declared.name.TaskId.{TaskId}
-use Rattle.hurd_sentences.specs.Sentences.{is_letter, sentence_lines}
-use Rattle.hurd_sentences.specs.Turns.{AreApart, AreSaid, Turn, is_line, paragraph, turns_text}
-use Rattle.hurd_sentences.proofs.Bytes.{all_both, all_weaker, first_same, is_other}
-use Rattle.hurd_sentences.proofs.ReadsBack.{reads_back}
-use Rattle.hurd_sentences.proofs.WordLaws.{decimal_is_word}
+use Rattle.hurd_words.specs.Sentences.{is_letter, sentence_lines}
+use Rattle.hurd_words.specs.Turns.{AreApart, AreSaid, Turn, is_line, paragraph, turns_text}
+use Rattle.hurd_words.proofs.Bytes.{all_both, all_weaker, first_same, is_other}
+use Rattle.hurd_words.proofs.ReadsBack.{reads_back}
+use Rattle.hurd_words.proofs.WordLaws.{decimal_is_word}
 use Rattle.hurd_lessons.specs.Told.{Said, last_line, of_others, printed}
 use Rattle.hurd_lessons.specs.declared.tally.Tally.{Tally}
 use Rattle.hurd_teaching.specs.Learners.{see_of, verb_of}

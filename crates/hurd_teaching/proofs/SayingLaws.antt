@@ -3,8 +3,8 @@ use Rattle.std.proofs.Common.{◌≡◌, refl, sym, subst, ℕ, ◌+◌, List, [
 use Rattle.std.specs.Prelude.{if◌then◌else◌}
 use Rattle.hurd_creds.specs.declared.name.TaskId.{TaskId}
 use Rattle.hurd_machine.specs.World.{World}
-use Rattle.hurd_sentences.specs.Sentences.{InSentences}
-use Rattle.hurd_sentences.proofs.ClauseLaws.{no_sentences}
+use Rattle.hurd_words.specs.Sentences.{InSentences}
+use Rattle.hurd_words.proofs.ClauseLaws.{no_sentences}
 use Rattle.hurd_lessons.specs.Told.{Lesson}
 use Rattle.hurd_lessons.proofs.InSentences.{seen_in_sentences, taught_in_sentences}
 use Rattle.hurd_teaching.specs.Learners.{is_quiet, see_of, verb_of}

@@ -6,7 +6,7 @@ use Rattle.hurd_creds.specs.declared.name.TaskId.{TaskId}
 use Rattle.hurd_machine.specs.World.{World}
 use Rattle.hurd_dialogue.specs.Parts.{Goes, Part, Way, next_task}
 use Rattle.hurd_views.specs.declared.view.View.{View}
-use Rattle.hurd_sentences.specs.Turns.{paragraph}
+use Rattle.hurd_words.specs.Turns.{paragraph}
 use Rattle.hurd_lessons.specs.Told.{Lesson, Taught, counted}
 use Rattle.hurd_lessons.specs.declared.tally.Tally.{Tally}
 use Rattle.hurd_terminal.specs.Faults.{AppendsFront}

@@ -1,8 +1,8 @@
 -- What is read of all that a program of learners prints.
 use Rattle.std.specs.Prelude.{◌≡◌, ℕ, true, List, [], ◌∷◌, ◌++◌}
 use Rattle.hurd_creds.specs.declared.name.TaskId.{TaskId}
-use Rattle.hurd_sentences.specs.Sentences.{InSentences}
-use Rattle.hurd_sentences.specs.Turns.{is_line}
+use Rattle.hurd_words.specs.Sentences.{InSentences}
+use Rattle.hurd_words.specs.Turns.{is_line}
 use Rattle.hurd_lessons.specs.Told.{Said, last_line, printed}
 use Rattle.hurd_lessons.specs.declared.tally.Tally.{Tally}
 use Rattle.hurd_teaching.specs.Learners.{see_of, verb_of}

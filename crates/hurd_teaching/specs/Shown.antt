@@ -4,7 +4,7 @@ use Rattle.std.specs.Io.KnownBytes.{Appends}
 use Rattle.hurd_creds.specs.declared.name.TaskId.{TaskId}
 use Rattle.hurd_machine.specs.World.{World}
 use Rattle.hurd_dialogue.specs.Parts.{Part, Way}
-use Rattle.hurd_sentences.specs.Turns.{paragraph}
+use Rattle.hurd_words.specs.Turns.{paragraph}
 use Rattle.hurd_views.specs.declared.view.View.{View}
 use Rattle.hurd_lessons.specs.Told.{Lesson, Said, counted, last_line, tally_from}
 use Rattle.hurd_lessons.specs.declared.tally.Tally.{Tally}

@@ -8,6 +8,7 @@ mod told;
 mod view;
 
 pub use rows::{
-    BodyRow, EntryRow, EntryRows, NodeNames, NodeRow, OpenRow, Row, ServerRow, TextRow, same_attributes,
+    BodyRow, EntryRow, EntryRows, NodeNames, NodeRow, OpenRow, Row, ServerRow, TextRow,
+    same_attributes,
 };
 pub use view::{Rows, SeatRow, View, rows_are_views, views_stay, views_tell_parts};

@@ -3,3 +3,11 @@ pub mod ModeLemmas
 pub mod UserLemmas
 pub mod WordLemmas
 pub mod EscapeLemmas
+pub mod Bytes
+pub mod SpellingLaws
+pub mod MarkLaws
+pub mod WordLaws
+pub mod SpellsBack
+pub mod SentenceLaws
+pub mod ReadsBack
+pub mod ClauseLaws

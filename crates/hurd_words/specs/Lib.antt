@@ -5,3 +5,7 @@ pub mod Users
 pub mod Reading
 pub mod Printing
 pub mod Escapes
+pub mod Spelling
+pub mod Marks
+pub mod Sentences
+pub mod Turns

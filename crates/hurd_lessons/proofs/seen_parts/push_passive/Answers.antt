@@ -1,7 +1,7 @@
 -- Words that are there, each behind a space.
 use Rattle.std.proofs.Common.{◌≡◌, ◌==◌, ◌++◌, ◌∷◌, [], List, ℕ, false, length, refl, append_assoc}
 use Rattle.std.specs.Prelude.{codes}
-use Rattle.hurd_sentences.specs.Spelling.{spelled_words}
+use Rattle.hurd_words.specs.Spelling.{spelled_words}
 use Rattle.hurd_lessons.specs.Seen.{passive_text}
 use Rattle.hurd_lessons.proofs.seen_parts.push_passive.Goals as goal
 
@@ -11,4 +11,4 @@ words_there (w ∷ ws) h = refl
 
 pub returns : goal.returns
 returns c =
-    rw (words_there c.args.passive.now c.if-is_empty.ensures, ← append_assoc c.args.words.now.items (codes " passive") (spelled_words c.args.passive.now)) (rw c.in_ok-extend_from_slice.ensures.items at c.push_words.ensures)
+    rw (words_there c.args.passive.now c.if-is_empty.ensures, ← append_assoc c.args.words.now.items (codes " passive") (spelled_words c.args.passive.now)) (rw c.in_ok-extend_from_slice.ensures.items at c.push_spelled_words.ensures)

@@ -1,9 +1,9 @@
 -- Texts that are sentences, by what they are put together of.
-use Rattle.std.proofs.Common.{◌≡◌, ◌⊎◌, inl, inr, ◌∙◌, refl, sym, ap, ℕ, ◌==◌, ◌&&◌, ◌||◌, Bool, true, false, true≢false, List, [], ◌∷◌, ◌++◌, append_assoc, append-nil, map, codes, if◌then◌else◌}
-use Rattle.std.specs.List.{concat, list_all}
+use Rattle.std.proofs.Common.{◌≡◌, ◌⊎◌, inl, inr, ◌∙◌, refl, sym, ap, ℕ, ◌==◌, ◌||◌, Bool, true, false, true≢false, List, [], ◌∷◌, ◌++◌, append_assoc, append-nil, map, codes}
+use Rattle.std.specs.List.{list_all}
 use Rattle.std.proofs.lemmas.Bool.{and_from, cases_Bool, eqb-true, or_left}
-use Rattle.hurd_sentences.specs.Sentences.{Clause, InSentences, Part, Sentence, are_sentences, behind, clause_text, is_clause, is_fit, is_letter, is_part, is_sentence, is_word, joined, part_text, sentence_line, sentence_lines}
-use Rattle.hurd_sentences.proofs.Bytes.{all_both, all_first, all_rest, all_weaker}
+use Rattle.hurd_words.specs.Sentences.{Clause, InSentences, Part, Sentence, behind, clause_text, is_clause, is_fit, is_letter, is_part, is_sentence, is_word, part_text, sentence_line, sentence_lines}
+use Rattle.hurd_words.proofs.Bytes.{all_both, all_first, all_rest, all_weaker}
 
 -- a text that may be a part
 abbrev pub fits : List ℕ → Bool

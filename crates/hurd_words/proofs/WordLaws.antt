@@ -1,14 +1,13 @@
 -- What is spelled, and what numbers are written with, may stand in a word.
-use Rattle.std.proofs.Common.{◌≡◌, ◌⊎◌, inl, inr, ◌∙◌, refl, sym, ap, subst, ℕ, zero, suc, ◌+◌, ◌-◌, ◌/◌, ◌%◌, ◌==◌, ◌&&◌, ◌||◌, ◌<◌, not, Bool, true, false, true≢false, List, [], ◌∷◌, ◌++◌, arith, nat_lt, nat_le, if◌then◌else◌, decimal, mod-lt}
+use Rattle.std.proofs.Common.{◌≡◌, inl, inr, ◌∙◌, refl, ap, ℕ, zero, suc, ◌+◌, ◌-◌, ◌/◌, ◌%◌, ◌==◌, ◌&&◌, ◌||◌, ◌<◌, not, Bool, true, false, List, [], ◌∷◌, arith, nat_lt, nat_le, if◌then◌else◌, decimal}
 use Rattle.std.specs.Fmt.{digit_glyph, digits, digits_onto}
-use Rattle.std.specs.List.{list_all}
-use Rattle.std.proofs.lemmas.Bool.{and_from, and_parts, cases_Bool, eqb-true, leb-true, lt-ltb, ltb-true as below, ltb-false as above, ne_eqb, not_from_false, or_from, or_parts}
+use Rattle.std.proofs.lemmas.Bool.{and_from, and_parts, cases_Bool, leb-true, lt-ltb, ltb-true as below, ltb-false as above, ne_eqb, not_from_false, or_from, or_parts}
 use Rattle.hurd_words.specs.Escapes.{escaped_byte, hex_letter}
 use Rattle.hurd_words.specs.Printing.{octal_digit}
-use Rattle.hurd_sentences.specs.Sentences.{is_letter, is_word}
-use Rattle.hurd_sentences.specs.Spelling.{by_number, is_joint, spelled_by, spelled_byte}
-use Rattle.hurd_sentences.proofs.Bytes.{all_both}
-use Rattle.hurd_sentences.proofs.SpellingLaws.{more_bytes, no_bytes}
+use Rattle.hurd_words.specs.Sentences.{is_letter, is_word}
+use Rattle.hurd_words.specs.Spelling.{by_number, is_joint, spelled_by, spelled_byte}
+use Rattle.hurd_words.proofs.Bytes.{all_both}
+use Rattle.hurd_words.proofs.SpellingLaws.{more_bytes, no_bytes}
 
 -- a byte that is above a space, and neither a comma nor a colon
 letter_from : (b : ℕ) → 32 < b → (b ≡ 44 → ⊥) → (b ≡ 58 → ⊥) → is_letter b ≡ true

@@ -1,9 +1,9 @@
 -- What is printed of things that are done one after another, and that it can be read back.
 use Rattle.std.specs.Prelude.{◌≡◌, ◌≢◌, ℕ, ◌==◌, not, Bool, true, List, [], ◌∷◌, ◌++◌, map}
 use Rattle.std.specs.List.{concat, list_all}
-use Rattle.hurd_sentences.specs.Marks.{marked}
-use Rattle.hurd_sentences.specs.Sentences.{Sentence, are_sentences, sentence_lines}
-use Rattle.hurd_sentences.specs.Spelling.{spelled_by}
+use Rattle.hurd_words.specs.Marks.{marked}
+use Rattle.hurd_words.specs.Sentences.{Sentence, are_sentences, sentence_lines}
+use Rattle.hurd_words.specs.Spelling.{spelled_by}
 
 -- of one thing: its own text, what is learned by it, and what is seen then
 pub record Turn : Type 0 where

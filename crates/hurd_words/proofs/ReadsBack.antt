@@ -1,14 +1,14 @@
 -- What is printed of things that are done one after another is read in one way.
-use Rattle.std.proofs.Common.{◌≡◌, ◌≢◌, ◌⊎◌, inl, inr, ◌∙◌, refl, sym, ap, subst, ℕ, ◌==◌, ◌&&◌, not, Bool, true, false, true≢false, List, [], ◌∷◌, ◌++◌, append_assoc, map, codes, if◌then◌else◌, arith}
-use Rattle.std.specs.List.{concat, list_all}
+use Rattle.std.proofs.Common.{◌≡◌, ◌≢◌, ◌⊎◌, inl, inr, ◌∙◌, refl, sym, ap, ℕ, ◌==◌, Bool, true, false, List, [], ◌∷◌, ◌++◌, append_assoc, map, codes, arith}
+use Rattle.std.specs.List.{list_all}
 use Rattle.std.proofs.lemmas.Bool.{and_from, cases_Bool, eq-eqb, eqb-true, not_from_false}
 use Rattle.std.proofs.lemmas.List.{append_cancel_left, append_cancel_right}
-use Rattle.hurd_sentences.specs.Marks.{marked, marked_from, unended}
-use Rattle.hurd_sentences.specs.Sentences.{Sentence, are_sentences, behind, clause_text, sentence_line, sentence_lines}
-use Rattle.hurd_sentences.specs.Turns.{AreApart, AreSaid, ReadsBack, Turn, is_line, paragraph, turn_text, turns_text}
-use Rattle.hurd_sentences.proofs.Bytes.{cut, first_same, is_other}
-use Rattle.hurd_sentences.proofs.MarkLaws.{mark, mark_more, mark_none}
-use Rattle.hurd_sentences.proofs.SentenceLaws.{NoneOf, lines_once, opened}
+use Rattle.hurd_words.specs.Marks.{marked, marked_from}
+use Rattle.hurd_words.specs.Sentences.{Sentence, are_sentences, behind, clause_text, sentence_line, sentence_lines}
+use Rattle.hurd_words.specs.Turns.{AreApart, ReadsBack, Turn, is_line, turn_text, turns_text}
+use Rattle.hurd_words.proofs.Bytes.{cut, first_same, is_other}
+use Rattle.hurd_words.proofs.MarkLaws.{mark, mark_more, mark_none}
+use Rattle.hurd_words.proofs.SentenceLaws.{NoneOf, lines_once, opened}
 
 -- a text that begins with a space or is an empty line and more: so no marked text goes on with it
 abbrev pub IsQuiet : List ℕ → Type 0

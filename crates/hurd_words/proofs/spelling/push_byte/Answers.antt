@@ -1,7 +1,7 @@
-use Rattle.std.proofs.Common.{◌≡◌, ◌++◌, ◌∷◌, [], List, ℕ, ap, ◌∙◌}
+use Rattle.std.proofs.Common.{◌++◌, List, ℕ, ap, ◌∙◌}
 use Rattle.std.proofs.lemmas.Result.{on_ok_weaker}
-use Rattle.hurd_sentences.proofs.SpellingLaws.{one_escaped, unjoined}
-use Rattle.hurd_sentences.proofs.spelling.push_byte.Goals as goal
+use Rattle.hurd_words.proofs.SpellingLaws.{unjoined}
+use Rattle.hurd_words.proofs.spelling.push_byte.Goals as goal
 
 pub returns-else-is_joint : goal.returns-else-is_joint
 returns-else-is_joint c =

@@ -1,7 +1,7 @@
 use Rattle.std.proofs.Common.{sym, ◌∙◌}
 use Rattle.std.proofs.lemmas.Result.{on_ok_weaker}
-use Rattle.hurd_sentences.proofs.MarkLaws.{mark_ended, mark_next}
-use Rattle.hurd_sentences.proofs.marks.push_marked.Goals as goal
+use Rattle.hurd_words.proofs.MarkLaws.{mark_ended, mark_next}
+use Rattle.hurd_words.proofs.marks.push_marked.Goals as goal
 
 pub loop-byte-preserved : goal.loop-byte-preserved
 loop-byte-preserved c = mark_next c.loop-byte.due _ _ c.args.part.now c.loop-byte.byte-index c.loop-byte-test.true c.in_ok-push_marked_byte.ensures ∙ c.loop-byte.invariant

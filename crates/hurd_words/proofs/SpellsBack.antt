@@ -1,11 +1,11 @@
 -- Bytes are spelled in one way.
-use Rattle.std.proofs.Common.{◌≡◌, ◌≢◌, ◌⊎◌, inl, inr, ◌∙◌, refl, sym, ap, subst, ℕ, ◌+◌, ◌-◌, ◌/◌, ◌%◌, ◌==◌, ◌&&◌, Bool, true, false, true≢false, List, [], ◌∷◌, ◌++◌, arith, nat_lt, nat_le, if◌then◌else◌, div-add-mod', codes}
+use Rattle.std.proofs.Common.{◌≡◌, ◌≢◌, ◌⊎◌, inl, inr, ◌∙◌, refl, sym, ap, subst, ℕ, ◌+◌, ◌-◌, ◌/◌, ◌%◌, ◌==◌, ◌&&◌, Bool, true, false, true≢false, List, [], ◌∷◌, ◌++◌, arith, nat_lt, nat_le, if◌then◌else◌}
 use Rattle.std.proofs.lemmas.Bool.{cases_Bool, eqb-true, eq-eqb, ltb-true as below, ltb-false as above}
 use Rattle.hurd_words.specs.Escapes.{escaped_byte, hex_letter}
-use Rattle.hurd_sentences.specs.Spelling.{by_number, is_joint, spelled_by, spelled_byte}
-use Rattle.hurd_sentences.specs.Turns.{SpellsBack}
-use Rattle.hurd_sentences.proofs.Bytes.{first_same}
-use Rattle.hurd_sentences.proofs.SpellingLaws.{more_bytes, no_bytes}
+use Rattle.hurd_words.specs.Spelling.{is_joint, spelled_by, spelled_byte}
+use Rattle.hurd_words.specs.Turns.{SpellsBack}
+use Rattle.hurd_words.proofs.Bytes.{first_same}
+use Rattle.hurd_words.proofs.SpellingLaws.{more_bytes, no_bytes}
 
 -- the shapes in which a byte is spelled: as it is, by a letter behind a backslash, and by its number
 pub data Shape (b : ℕ) : List ℕ → Type 0 where

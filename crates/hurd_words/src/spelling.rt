@@ -1,10 +1,10 @@
 //! How bytes of users are spelled in a sentence.
 ghost use Rattle.std.specs.Prelude.{◌≡◌, ◌<◌, ◌++◌, OnOk};
 ghost use Rattle.hurd_words.specs.Escapes.{hex_letter};
-ghost use Rattle.hurd_sentences.specs.Spelling.{is_joint, spelled, spelled_by, spelled_byte, spelled_name, spelled_words};
+ghost use Rattle.hurd_words.specs.Spelling.{is_joint, spelled, spelled_by, spelled_byte, spelled_name, spelled_words};
 
+use crate::escapes::push_escaped;
 use hurd_creds::Bytes;
-use hurd_words::escapes::push_escaped;
 use std::alloc::AllocError;
 
 /// A hexadecimal digit.
@@ -53,26 +53,26 @@ fn push_bytes(text: &mut Vec<u8>, path: bool, bytes: &[u8]) -> Result<(), AllocE
 }
 
 /// Adds a word of a user's: spaces, newlines, backslashes, commas, colons, brackets, `>` and all bytes but printable ASCII by escapes. An error is want of memory.
-pub fn push_word(text: &mut Vec<u8>, word: &[u8]) -> Result<(), AllocError>
+pub fn push_spelled(text: &mut Vec<u8>, word: &[u8]) -> Result<(), AllocError>
     ensures { OnOk result (text.new.items ≡ text.old.items ++ spelled word.now) }
 {
     push_bytes(text, false, word)
 }
 
 /// Adds a name that stands in a path: slashes by escapes too. An error is want of memory.
-pub fn push_name(text: &mut Vec<u8>, name: &[u8]) -> Result<(), AllocError>
+pub fn push_spelled_name(text: &mut Vec<u8>, name: &[u8]) -> Result<(), AllocError>
     ensures { OnOk result (text.new.items ≡ text.old.items ++ spelled_name name.now) }
 {
     push_bytes(text, true, name)
 }
 
 /// Adds words of a user's, each behind a space. An error is want of memory.
-pub fn push_words(text: &mut Vec<u8>, words: &[Bytes]) -> Result<(), AllocError>
+pub fn push_spelled_words(text: &mut Vec<u8>, words: &[Bytes]) -> Result<(), AllocError>
     ensures { OnOk result (text.new.items ≡ text.old.items ++ spelled_words words.now) }
 {
     for word in words {
         text.push(b' ')?;
-        push_word(text, word.as_slice())?;
+        push_spelled(text, word.as_slice())?;
     }
     Ok(())
 }

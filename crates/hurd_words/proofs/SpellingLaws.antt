@@ -3,7 +3,7 @@ use Rattle.std.proofs.Common.{◌≡◌, ◌<◌, ◌≤◌, ◌+◌, ◌++◌, 
 use Rattle.std.specs.Prelude.{Bool}
 use Rattle.std.proofs.lemmas.List.{at_drop_all, at_drop_more}
 use Rattle.hurd_words.specs.Escapes.{escaped, escaped_byte}
-use Rattle.hurd_sentences.specs.Spelling.{by_number, is_joint, spelled_by, spelled_byte}
+use Rattle.hurd_words.specs.Spelling.{by_number, is_joint, spelled_by, spelled_byte}
 
 -- one byte with its escape
 pub one_escaped : (b : ℕ) → escaped (b ∷ []) ≡ escaped_byte b

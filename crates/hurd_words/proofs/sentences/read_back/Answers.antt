@@ -1,6 +1,6 @@
-use Rattle.hurd_sentences.proofs.ReadsBack.{reads_back}
-use Rattle.hurd_sentences.proofs.SpellsBack.{spells_back}
-use Rattle.hurd_sentences.proofs.laws.read_back.Goals as goal
+use Rattle.hurd_words.proofs.ReadsBack.{reads_back}
+use Rattle.hurd_words.proofs.SpellsBack.{spells_back}
+use Rattle.hurd_words.proofs.sentences.read_back.Goals as goal
 
 pub returns-clause-turns : goal.returns-clause-turns
 returns-clause-turns c = reads_back

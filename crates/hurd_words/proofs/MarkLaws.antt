@@ -1,7 +1,7 @@
 -- A text with marks, one byte after another.
-use Rattle.std.proofs.Common.{◌≡◌, ◌<◌, ◌≤◌, ◌+◌, ◌++◌, ◌∷◌, [], ℕ, List, refl, sym, ◌∙◌, ap, append_assoc, append-nil, drop, get_or, length, Bool, true, false, if◌then◌else◌, ◌==◌, codes}
+use Rattle.std.proofs.Common.{◌≡◌, ◌<◌, ◌≤◌, ◌+◌, ◌++◌, ◌∷◌, [], ℕ, List, refl, sym, ◌∙◌, ap, append_assoc, drop, get_or, length, Bool, if◌then◌else◌, ◌==◌, codes}
 use Rattle.std.proofs.lemmas.List.{at_drop_all, at_drop_more}
-use Rattle.hurd_sentences.specs.Marks.{marked_from, unended}
+use Rattle.hurd_words.specs.Marks.{marked_from, unended}
 
 -- what stands before a byte, where a line may begin
 abbrev pub mark : Bool → List ℕ

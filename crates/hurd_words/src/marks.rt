@@ -1,6 +1,6 @@
 //! How a text of a user's is printed between sentences.
 ghost use Rattle.std.specs.Prelude.{◌≡◌, ◌∷◌, ◌++◌, [], if◌then◌else◌, codes, OnOk};
-ghost use Rattle.hurd_sentences.specs.Marks.{marked, unended};
+ghost use Rattle.hurd_words.specs.Marks.{marked, unended};
 
 use std::alloc::AllocError;
 

@@ -1,10 +1,10 @@
 -- A sentence is read in one way.
-use Rattle.std.proofs.Common.{◌≡◌, ◌≢◌, ◌⊎◌, inl, inr, ◌∙◌, refl, sym, ap, subst, ℕ, ◌==◌, ◌&&◌, not, Bool, true, false, true≢false, List, [], ◌∷◌, ◌++◌, append_assoc, map, codes, nat_lt}
-use Rattle.std.specs.List.{concat, list_all}
-use Rattle.std.proofs.lemmas.Bool.{and_parts, cases_Bool, eq-eqb, eqb-true, ne_eqb, not_from_false}
+use Rattle.std.proofs.Common.{◌≡◌, ◌≢◌, inl, inr, ◌∙◌, refl, sym, ap, ℕ, ◌==◌, ◌&&◌, Bool, true, false, true≢false, List, [], ◌∷◌, ◌++◌, append_assoc, map, codes}
+use Rattle.std.specs.List.{list_all}
+use Rattle.std.proofs.lemmas.Bool.{cases_Bool, eqb-true, not_from_false}
 use Rattle.std.proofs.lemmas.List.{append_cancel_left}
-use Rattle.hurd_sentences.specs.Sentences.{Clause, Part, Sentence, are_sentences, behind, clause_text, is_clause, is_letter, is_part, is_sentence, is_word, joined, part_text, sentence_line, sentence_lines, some}
-use Rattle.hurd_sentences.proofs.Bytes.{Begins, all_behind, all_first, all_joined, all_mapped, all_rest, all_weaker, behind_once, cut, first_same, is_other, joined_once, lack, map_once}
+use Rattle.hurd_words.specs.Sentences.{Clause, Part, Sentence, are_sentences, behind, clause_text, is_clause, is_letter, is_part, is_sentence, is_word, part_text, sentence_line, sentence_lines, some}
+use Rattle.hurd_words.proofs.Bytes.{all_behind, all_first, all_joined, all_mapped, all_rest, all_weaker, behind_once, cut, first_same, is_other, joined_once, lack, map_once}
 
 -- what is no letter is in no word
 letter_other : (d b : ℕ) → is_letter d ≡ false → is_letter b ≡ true → is_other d b ≡ true

@@ -1,4 +1,0 @@
-pub mod Spelling
-pub mod Marks
-pub mod Sentences
-pub mod Turns
