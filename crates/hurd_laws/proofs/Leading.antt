@@ -7,10 +7,10 @@ use Rattle.hurd_machine.proofs.RenamedPlans.{answer_renamed}
 
 module _ {N M A B : Type 0} (h : A → B) (k : N → Result A Errno) (l : M → Result B Errno) where
   -- what follows from two answers is the same but for names
-  abbrev pub Leads : Result N Errno → Result M Errno → Type 0
-  Leads s t = first t l ≡ answer_renamed h (first s k)
+  abbrev pub LeadsAlike : Result N Errno → Result M Errno → Type 0
+  LeadsAlike s t = first t l ≡ answer_renamed h (first s k)
 
-  pub leads_if : {b c : Bool} (i j : Result N Errno) (m n : Result M Errno) → c ≡ b → Leads i m → Leads j n → Leads (if b then i else j) (if c then m else n)
+  pub leads_if : {b c : Bool} (i j : Result N Errno) (m n : Result M Errno) → c ≡ b → LeadsAlike i m → LeadsAlike j n → LeadsAlike (if b then i else j) (if c then m else n)
   leads_if {b} i j m n is one other = rw is (go b)
     where
       go : (b : Bool) → first (if b then m else n) l ≡ answer_renamed h (first (if b then i else j) k)
@@ -18,14 +18,14 @@ module _ {N M A B : Type 0} (h : A → B) (k : N → Result A Errno) (l : M → 
       go false = other
 
   -- the same of what isn't refused
-  pub leads_either : {b c : Bool} (i j : N) (m n : M) → c ≡ b → Leads (Ok i) (Ok m) → Leads (Ok j) (Ok n) → Leads (Ok (if b then i else j)) (Ok (if c then m else n))
+  pub leads_either : {b c : Bool} (i j : N) (m n : M) → c ≡ b → LeadsAlike (Ok i) (Ok m) → LeadsAlike (Ok j) (Ok n) → LeadsAlike (Ok (if b then i else j)) (Ok (if c then m else n))
   leads_either {b} i j m n is one other = rw is (go b)
     where
       go : (b : Bool) → first (Ok (if b then m else n)) l ≡ answer_renamed h (first (Ok (if b then i else j)) k)
       go true = one
       go false = other
 
-  pub leads_given : {b c : Bool} (e : Errno) (s : Result N Errno) (t : Result M Errno) → c ≡ b → Leads s t → Leads (given e b s) (given e c t)
+  pub leads_given : {b c : Bool} (e : Errno) (s : Result N Errno) (t : Result M Errno) → c ≡ b → LeadsAlike s t → LeadsAlike (given e b s) (given e c t)
   unfolding first given
   leads_given {b} e s t is alike = rw is (go b)
     where
@@ -34,7 +34,7 @@ module _ {N M A B : Type 0} (h : A → B) (k : N → Result A Errno) (l : M → 
       go false = refl
 
   module _ {X Y : Type 0} (g : X → Y) where
-    pub leads_on : {p : Option Y} (e : Errno) (o : Option X) (s : X → Result N Errno) (t : Y → Result M Errno) → p ≡ option_map g o → ((x : X) → Leads (s x) (t (g x))) → Leads (on e o s) (on e p t)
+    pub leads_on : {p : Option Y} (e : Errno) (o : Option X) (s : X → Result N Errno) (t : Y → Result M Errno) → p ≡ option_map g o → ((x : X) → LeadsAlike (s x) (t (g x))) → LeadsAlike (on e o s) (on e p t)
     unfolding first on
     leads_on e o s t is alike = rw is (go o)
       where
@@ -42,7 +42,7 @@ module _ {N M A B : Type 0} (h : A → B) (k : N → Result A Errno) (l : M → 
         go None = refl
         go (Some x) = alike x
 
-    pub leads_first : {q : Result Y Errno} (r : Result X Errno) (s : X → Result N Errno) (t : Y → Result M Errno) → q ≡ answer_renamed g r → ((x : X) → Leads (s x) (t (g x))) → Leads (first r s) (first q t)
+    pub leads_first : {q : Result Y Errno} (r : Result X Errno) (s : X → Result N Errno) (t : Y → Result M Errno) → q ≡ answer_renamed g r → ((x : X) → LeadsAlike (s x) (t (g x))) → LeadsAlike (first r s) (first q t)
     unfolding first
     leads_first r s t is alike = rw is (go r)
       where

@@ -14,7 +14,7 @@ use Rattle.hurd_lookup.specs.Nested.{asleep}
 unfoldable use Rattle.hurd_lookup.specs.Resolve.{path_end, resolve}
 use Rattle.hurd_lookup.specs.Resolve.{Leg, awake, from_top, landed, leg_at, leg_by, leg_request, legs, most_looks, resolve_all}
 use Rattle.hurd_laws.proofs.LookupRenamed.{Landed, leg_renamed, new_port_renamed, outcome_renamed}
-use Rattle.hurd_laws.proofs.Leading.{Leads, leads_first, leads_given, leads_on}
+use Rattle.hurd_laws.proofs.Leading.{LeadsAlike, leads_first, leads_given, leads_on}
 use Rattle.hurd_laws.proofs.WalkRenamed.{walk-renamed}
 
 module _ (f : OtherNames) where
@@ -37,20 +37,20 @@ module _ (f : OtherNames) where
   module _ (w : World) where
     -- for whatever is made of the end of a path
     module _ {A B : Type 0} (h : A → B) (k : Landed → Result A Errno) (l : Landed → Result B Errno)
-        (ends : (n : Name) → Leads h k l (lands_at n) (lands_at (f.to n))) (sleeps : (n : Name) → Leads h k l (asleep_at n) (asleep_at (f.to n))) (ids : IdSets) where
-      landed-leads : (i j : Leg → Result Landed Errno) → ((leg : Leg) → Leads h k l (i leg) (j (leg_renamed f.to leg)))
-          → (o : Outcome) → Leads h k l (landed i o) (landed j (outcome_renamed f.to o))
+        (ends : (n : Name) → LeadsAlike h k l (lands_at n) (lands_at (f.to n))) (sleeps : (n : Name) → LeadsAlike h k l (asleep_at n) (asleep_at (f.to n))) (ids : IdSets) where
+      landed-leads : (i j : Leg → Result Landed Errno) → ((leg : Leg) → LeadsAlike h k l (i leg) (j (leg_renamed f.to leg)))
+          → (o : Outcome) → LeadsAlike h k l (landed i o) (landed j (outcome_renamed f.to o))
       unfolding first
       landed-leads i j alike (Opens e) = ends e.node
       landed-leads i j alike (Makes s m ids ways) = refl
       landed-leads i j alike (Retries kind name at) = leads_first h k l (leg_renamed f.to) (leg_at name at) i j (leg_at-renamed name at) alike
       landed-leads i j alike (Starts s) = sleeps s.node
 
-      no_looks : (leg : Leg) → Leads h k l (legs 0 w ids leg) (legs 0 (renamed f w) ids (leg_renamed f.to leg))
+      no_looks : (leg : Leg) → LeadsAlike h k l (legs 0 w ids leg) (legs 0 (renamed f w) ids (leg_renamed f.to leg))
       unfolding first
       no_looks leg = refl
 
-      legs-leads : (looks : ℕ) (leg : Leg) → Leads h k l (legs looks w ids leg) (legs looks (renamed f w) ids (leg_renamed f.to leg))
+      legs-leads : (looks : ℕ) (leg : Leg) → LeadsAlike h k l (legs looks w ids leg) (legs looks (renamed f w) ids (leg_renamed f.to leg))
       legs-leads zero leg = no_looks leg
       legs-leads (suc looks) leg =
           leads_on h k l (header_renamed f.to) EDIED (header_at w leg.node) _ _ (header_at-renamed f w leg.node) (λ x.
@@ -58,17 +58,17 @@ module _ (f : OtherNames) where
           leads_first h k l (outcome_renamed f.to) (walk w (leg_by ids leg) (leg_request leg.path) leg.node (names_in leg.path)) _ _
           (walk-renamed f w (leg_by ids leg) (leg_request leg.path) leg.node (names_in leg.path)) (landed-leads _ _ (legs-leads looks))))
 
-      path_end-leads : (path : List ℕ) → Leads h k l (path_end w ids path) (path_end (renamed f w) ids path)
+      path_end-leads : (path : List ℕ) → LeadsAlike h k l (path_end w ids path) (path_end (renamed f w) ids path)
       unfolding path_end
       path_end-leads path = leads_first h k l (leg_renamed f.to) (from_top path) (legs most_looks w ids) (legs most_looks (renamed f w) ids) (from_top-renamed path) (legs-leads most_looks)
 
     -- the node
 
-    awake_lands : (e : Errno) (n : Name) → Leads f.to (awake e) (awake e) (lands_at n) (lands_at (f.to n))
+    awake_lands : (e : Errno) (n : Name) → LeadsAlike f.to (awake e) (awake e) (lands_at n) (lands_at (f.to n))
     unfolding first
     awake_lands e n = refl
 
-    awake_sleeps : (e : Errno) (n : Name) → Leads f.to (awake e) (awake e) (asleep_at n) (asleep_at (f.to n))
+    awake_sleeps : (e : Errno) (n : Name) → LeadsAlike f.to (awake e) (awake e) (asleep_at n) (asleep_at (f.to n))
     unfolding first
     awake_sleeps e n = refl
 
@@ -86,11 +86,11 @@ module _ (f : OtherNames) where
     abbrev waiting : Landed → Result (Option Name) Errno
     waiting l = Ok (asleep (Ok l))
 
-    waiting_lands : (n : Name) → Leads (option_map f.to) waiting waiting (lands_at n) (lands_at (f.to n))
+    waiting_lands : (n : Name) → LeadsAlike (option_map f.to) waiting waiting (lands_at n) (lands_at (f.to n))
     unfolding first
     waiting_lands n = refl
 
-    waiting_sleeps : (n : Name) → Leads (option_map f.to) waiting waiting (asleep_at n) (asleep_at (f.to n))
+    waiting_sleeps : (n : Name) → LeadsAlike (option_map f.to) waiting waiting (asleep_at n) (asleep_at (f.to n))
     unfolding first
     waiting_sleeps n = refl
 

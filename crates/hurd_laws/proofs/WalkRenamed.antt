@@ -23,7 +23,7 @@ use Rattle.hurd_lookup.specs.Lookup.{Active, Authority, Crossed, Outcome, Retrie
 use Rattle.hurd_laws.proofs.LookupRenamed.{Asked, Stepped, authority_renamed, crossed_renamed, outcome_renamed, ways_renamed}
 use Rattle.hurd_laws.proofs.CoreRenamed.{branches_at-renamed}
 use Rattle.hurd_laws.proofs.EndsRenamed.{make_asks-renamed, open_asks-renamed}
-use Rattle.hurd_laws.proofs.Leading.{Leads, leads_either, leads_given, leads_if, leads_on}
+use Rattle.hurd_laws.proofs.Leading.{LeadsAlike, leads_either, leads_given, leads_if, leads_on}
 use Rattle.hurd_laws.proofs.StepsRenamed.{came_in_at-renamed, crossed_at-renamed, shows_name-renamed, ways_into-renamed}
 
 module _ (f : OtherNames) where
@@ -116,7 +116,7 @@ module _ (f : OtherNames) where
 
       -- it is the same of two answers
       abbrev Steps : Result Stepped Errno → Result Stepped Errno → Type 0
-      Steps = Leads (outcome_renamed f.to) steps alias_steps
+      Steps = LeadsAlike (outcome_renamed f.to) steps alias_steps
 
       to_parent-leads : (o : Option Name) → Steps (to_parent o) (to_parent (option_map f.to o))
       unfolding first

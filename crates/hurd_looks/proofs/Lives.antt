@@ -8,7 +8,7 @@ use Rattle.hurd_nodes.specs.Shown.{boot_name}
 use Rattle.hurd_machine.proofs.Common.{Name, TaskId, same_name}
 use Rattle.hurd_machine.specs.Renamed.{OtherNames}
 use Rattle.hurd_sight.specs.Parts.{is_in}
-use Rattle.hurd_looks.specs.Meets.{Agrees, AreApart, FromBoot, HaveOneMaker, IsOneToOne, KeepOwn, Pairing}
+use Rattle.hurd_looks.specs.Pairings.{Agrees, AreApart, FromBoot, HaveOneMaker, IsOneToOne, KeepOwn, Pairing}
 use Rattle.hurd_looks.specs.Renamed.{IsAside}
 use Rattle.hurd_looks.proofs.PairLaws.{firsts, seconds}
 

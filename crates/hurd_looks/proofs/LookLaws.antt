@@ -12,8 +12,8 @@ use Rattle.hurd_laws.specs.Untold.{RaisesCounts}
 use Rattle.hurd_views.specs.Views.{row_at}
 use Rattle.hurd_views.specs.declared.rows.Row.{Row}
 use Rattle.hurd_views.specs.declared.view.View.{View}
-use Rattle.hurd_looks.specs.Meets.{Agrees, IsOneToOne, KeepOwn, Meets, Pairing}
-unfoldable use Rattle.hurd_looks.specs.Meets.{PairsFor}
+use Rattle.hurd_looks.specs.Pairings.{Agrees, IsOneToOne, KeepOwn, PairUp, Pairing}
+unfoldable use Rattle.hurd_looks.specs.Pairings.{PairsFor}
 use Rattle.hurd_looks.specs.Renamed.{AreAlike, IsAside, listed, named_row_renamed, row_renamed}
 use Rattle.hurd_looks.proofs.Lives.{lives, own_kept}
 use Rattle.hurd_looks.proofs.MeetLaws.{pairs_as, pairs_both, pairs_no}
@@ -43,11 +43,11 @@ module _ (x y : Name × Row) (n m : Name) (r s : Row) (is : x ≡ (n, r)) (at : 
   row_of_both : (g : Name → Name) → (g n ≡ m) × (row_renamed g r ≡ s) → named_row_renamed g x ≡ y
   row_of_both g h = ap (named_row_renamed g) is ∙ ap₂ (λ (k : Name) (z : Row). (k, z)) h.0 h.1 ∙ sym at
 
-  pub row_no : (old : Pairing) (met : Bool) (new : Pairing) → met ≡ false → Meets (λ f k. f k) n m old met new → Meets named_row_renamed x y old false new
+  pub row_no : (old : Pairing) (met : Bool) (new : Pairing) → met ≡ false → PairUp (λ f k. f k) n m old met new → PairUp named_row_renamed x y old false new
   row_no old met new not_met h = pairs_no _ _ row_name old met new not_met h
 
-  pub row_both : (old : Pairing) (met : Bool) (mid : Pairing) (next : Bool) (new : Pairing) → met ≡ true → Meets (λ f k. f k) n m old met mid → Meets row_renamed r s mid next new
-      → Meets named_row_renamed x y old next new
+  pub row_both : (old : Pairing) (met : Bool) (mid : Pairing) (next : Bool) (new : Pairing) → met ≡ true → PairUp (λ f k. f k) n m old met mid → PairUp row_renamed r s mid next new
+      → PairUp named_row_renamed x y old next new
   row_both old met mid next new is_met h k = pairs_as _ _ (λ g. (row_of_both g, λ e. (row_name g e, row_seen g e))) old next new (pairs_both _ _ old met mid next new is_met h k)
 
 pub listed_length : (rows : List (Name × Row)) → length (listed rows) ≡ length rows

@@ -7,8 +7,8 @@ use Rattle.hurd_creds.proofs.NameLaws.{equal_if_same, same_name-itself}
 use Rattle.hurd_machine.proofs.Common.{Name, same_name}
 use Rattle.hurd_machine.specs.Renamed.{OtherNames}
 use Rattle.hurd_sight.specs.Parts.{is_in}
-use Rattle.hurd_looks.specs.Meets.{Agrees, Meets, Pairing}
-unfoldable use Rattle.hurd_looks.specs.Meets.{PairsFor}
+use Rattle.hurd_looks.specs.Pairings.{Agrees, PairUp, Pairing}
+unfoldable use Rattle.hurd_looks.specs.Pairings.{PairsFor}
 
 -- what holds of each answer that is no want of memory
 pub ok_then : {A E : Type 0} (P Q : A → Type 0) → ((x : A) → P x → Q x) → (r : Result A E) → IfOk r P → IfOk r Q
@@ -145,16 +145,16 @@ module _ {A : Type 0} (r : (Name → Name) → A → A) where
   one_on i = omega arith
 
   pub before_next : (i : ℕ) (xs ys : List A) (x y : A) → slice_get xs i ≡ Some x → slice_get ys i ≡ Some y → (old mid : Pairing) (met : Bool) (new : Pairing) → met ≡ true
-      → PairsFor (λ g. Before g i xs ys) old true mid → Meets r x y mid met new → PairsFor (λ g. Before g (i + 1) xs ys) old true new
+      → PairsFor (λ g. Before g i xs ys) old true mid → PairUp r x y mid met new → PairsFor (λ g. Before g (i + 1) xs ys) old true new
   before_next i xs ys x y is at old mid met new is_met h k = subst (λ (j : ℕ). PairsFor (λ g. Before g j xs ys) old true new) (one_on i)
       (pairs_as _ _ (λ g. let e = before_more g i xs ys x y is at in (e.1, e.0)) old true new
-      (pairs_both (λ g. Before g i xs ys) (λ g. r g x ≡ y) old true mid true new refl h (subst (λ (b : Bool). Meets r x y mid b new) is_met k)))
+      (pairs_both (λ g. Before g i xs ys) (λ g. r g x ≡ y) old true mid true new refl h (subst (λ (b : Bool). PairUp r x y mid b new) is_met k)))
 
   pub before_stops : (i : ℕ) (xs ys : List A) (x y : A) → slice_get xs i ≡ Some x → slice_get ys i ≡ Some y → length xs ≡ length ys → (old mid : Pairing) (met : Bool) (new : Pairing) → met ≡ false
-      → PairsFor (λ g. Before g i xs ys) old true mid → Meets r x y mid met new → PairsFor (λ g. map (r g) xs ≡ ys) old false new
+      → PairsFor (λ g. Before g i xs ys) old true mid → PairUp r x y mid met new → PairsFor (λ g. map (r g) xs ≡ ys) old false new
   before_stops i xs ys x y is at long old mid met new not_met h k =
       pairs_no (λ g. Before g i xs ys × (r g x ≡ y)) (λ g. map (r g) xs ≡ ys) (λ g e. (before_more g i xs ys x y is at).0 (upto g e)) old false new refl
-      (pairs_both (λ g. Before g i xs ys) (λ g. r g x ≡ y) old true mid false new refl h (subst (λ (b : Bool). Meets r x y mid b new) not_met k))
+      (pairs_both (λ g. Before g i xs ys) (λ g. r g x ≡ y) old true mid false new refl h (subst (λ (b : Bool). PairUp r x y mid b new) not_met k))
     where
       first : (g : Name → Name) (j : ℕ) (zs bs : List A) → map (r g) zs ≡ bs → Before g j zs bs
       first g zero zs bs e = tt
@@ -182,7 +182,7 @@ module _ {A : Type 0} (r : (Name → Name) → A → A) (a b : Option A) (old ne
   abbrev Maps : (Name → Name) → Type 0
   Maps g = option_map (r g) a ≡ b
 
-  pub some_meets : (x y : A) (met : Bool) → a ≡ Some x → b ≡ Some y → Meets r x y old met new → PairsFor Maps old met new
+  pub some_meets : (x y : A) (met : Bool) → a ≡ Some x → b ≡ Some y → PairUp r x y old met new → PairsFor Maps old met new
   some_meets x y met is at h = pairs_as _ _ (λ g. same g) old met new h
     where
       same : (g : Name → Name) → (r g x ≡ y) ↔ Maps g

@@ -7,8 +7,8 @@ use Rattle.hurd_creds.proofs.NameLaws.{equal_if_same, same_name-itself}
 use Rattle.hurd_machine.proofs.Common.{Name, same_name}
 use Rattle.hurd_machine.specs.Renamed.{OtherNames}
 use Rattle.hurd_sight.specs.Parts.{is_in}
-use Rattle.hurd_looks.specs.Meets.{Agrees, AreApart, FromBoot, HaveOneMaker, IsOneToOne, KeepOwn, Pairing}
-unfoldable use Rattle.hurd_looks.specs.Meets.{PairsFor}
+use Rattle.hurd_looks.specs.Pairings.{Agrees, AreApart, FromBoot, HaveOneMaker, IsOneToOne, KeepOwn, Pairing}
+unfoldable use Rattle.hurd_looks.specs.Pairings.{PairsFor}
 use Rattle.hurd_looks.proofs.MeetLaws.{agrees_more, found_says, taken_says}
 
 abbrev pub firsts : Pairing → List Name

@@ -1,3 +1,3 @@
 pub mod Renamed
-pub mod Meets
+pub mod Pairings
 pub mod Looks

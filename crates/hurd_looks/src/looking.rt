@@ -4,7 +4,7 @@ ghost use Rattle.hurd_creds.specs.declared.name.Name.{Name};
 ghost use Rattle.hurd_sight.specs.Reach.{among};
 ghost use Rattle.hurd_views.specs.Views.{or_no_row};
 ghost use Rattle.hurd_views.specs.declared.rows.Row.{Row};
-ghost use Rattle.hurd_looks.specs.Meets.{Meets};
+ghost use Rattle.hurd_looks.specs.Pairings.{PairUp};
 ghost use Rattle.hurd_looks.specs.Renamed.{AreAlike, listed, named_row_renamed, row_renamed};
 
 use crate::meet::{Meet, meet_all};
@@ -16,7 +16,7 @@ use std::alloc::{AllocError, Global};
 
 /// Pairs the names in what is seen under two names; nothing is seen where there is no row. An error is want of memory.
 fn meet_seen(row: Option<&Row>, other: Option<&Row>, pairs: &mut Pairs) -> Result<bool, AllocError>
-    ensures { IfOk result (λ met. Meets row_renamed (or_no_row (option_copied row.entry)) (or_no_row (option_copied other.entry)) pairs.old met pairs.new) }
+    ensures { IfOk result (λ met. PairUp row_renamed (or_no_row (option_copied row.entry)) (or_no_row (option_copied other.entry)) pairs.old met pairs.new) }
 {
     let none = nothing();
     row.unwrap_or(&none).meet(other.unwrap_or(&none), pairs)
@@ -25,7 +25,7 @@ fn meet_seen(row: Option<&Row>, other: Option<&Row>, pairs: &mut Pairs) -> Resul
 /// Pairs the names at an index of both, and those in what is seen under them. An error is want of memory.
 fn meet_row(some: &Rows, others: &Rows, index: usize, pairs: &mut Pairs) -> Result<bool, AllocError>
     ensures { IfOk result (λ met. (x y : Name × Row) → slice_get (listed some.now) index ≡ Some x → slice_get (listed others.now) index ≡ Some y
-        → Meets named_row_renamed x y pairs.old met pairs.new) }
+        → PairUp named_row_renamed x y pairs.old met pairs.new) }
 {
     let (Some(name), Some(other)) = (some.name_at(index), others.name_at(index)) else {
         return Ok(false);
@@ -38,7 +38,7 @@ fn meet_row(some: &Rows, others: &Rows, index: usize, pairs: &mut Pairs) -> Resu
 
 /// Pairs the names of two views' rows, in the order in which they were found; whether the rows are the same but for names. An error is want of memory.
 fn meet_rows(some: &Rows, others: &Rows, pairs: &mut Pairs) -> Result<bool, AllocError>
-    ensures { IfOk result (λ met. Meets (λ f es. map (named_row_renamed f) es) (listed some.now) (listed others.now) pairs.old met pairs.new) }
+    ensures { IfOk result (λ met. PairUp (λ f es. map (named_row_renamed f) es) (listed some.now) (listed others.now) pairs.old met pairs.new) }
 {
     if some.len() != others.len() {
         return Ok(false);

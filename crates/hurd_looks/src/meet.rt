@@ -1,7 +1,7 @@
 //! Things of two views that are to be the same but for names.
 ghost use Rattle.std.specs.Prelude.{IfOk, map};
 ghost use Rattle.std.specs.Option.{option_map};
-ghost use Rattle.hurd_looks.specs.Meets.{Meets};
+ghost use Rattle.hurd_looks.specs.Pairings.{PairUp};
 
 use crate::pairs::Pairs;
 use hurd_creds::Name;
@@ -16,7 +16,7 @@ pub(crate) trait Meet {
 
     /// Pairs the names of both in their order; whether these are then the same but for names. An error is want of memory.
     fn meet(&self, other: &Self, pairs: &mut Pairs) -> Result<bool, AllocError>
-        ensures { IfOk result (λ met. Meets renamed self.now other.now pairs.old met pairs.new) };
+        ensures { IfOk result (λ met. PairUp renamed self.now other.now pairs.old met pairs.new) };
 }
 
 impl Meet for Name {
@@ -47,7 +47,7 @@ pub(crate) fn meet_all<T: Meet>(
     others: &[T],
     pairs: &mut Pairs,
 ) -> Result<bool, AllocError>
-    ensures { IfOk result (λ met. Meets (λ f xs. map (T.renamed f) xs) some.now others.now pairs.old met pairs.new) }
+    ensures { IfOk result (λ met. PairUp (λ f xs. map (T.renamed f) xs) some.now others.now pairs.old met pairs.new) }
 {
     if some.len() != others.len() {
         return Ok(false);

@@ -6,7 +6,7 @@ ghost use Rattle.hurd_creds.specs.Names.{same_name};
 ghost use Rattle.hurd_nodes.specs.Shown.{boot_name};
 ghost use Rattle.hurd_sight.specs.Parts.{is_in};
 ghost use Rattle.hurd_sight.specs.Reach.{among};
-ghost use Rattle.hurd_looks.specs.Meets.{IsOneToOne, KeepOwn, Meets};
+ghost use Rattle.hurd_looks.specs.Pairings.{IsOneToOne, KeepOwn, PairUp};
 
 use hurd_creds::{Name, TaskId};
 use hurd_nodes::BOOT_NAME;
@@ -24,7 +24,7 @@ pub(crate) struct Pairs {
 impl Model for Pairs {
     ghost use Rattle.std.specs.Prelude.{◌≡◌, List, map};
     ghost use Rattle.hurd_creds.specs.declared.name.Name.{Name};
-    ghost use Rattle.hurd_looks.specs.Meets.{IsOneToOne};
+    ghost use Rattle.hurd_looks.specs.Pairings.{IsOneToOne};
 
     ghost Value = { List (Name × Name) };
 
@@ -63,7 +63,7 @@ impl Pairs {
 
     /// Pairs two names that stand in the same place; whether they can be. An error is want of memory.
     pub(crate) fn pair(&mut self, name: Name, other: Name) -> Result<bool, AllocError>
-        ensures { IfOk result (λ met. Meets (λ f n. f n) name other self.old met self.new) }
+        ensures { IfOk result (λ met. PairUp (λ f n. f n) name other self.old met self.new) }
     {
         if name.task != other.task {
             return Ok(false);

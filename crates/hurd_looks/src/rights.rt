@@ -2,7 +2,7 @@
 ghost use Rattle.std.specs.Prelude.{◌↔◌, IfOk, IsTrue};
 ghost use Rattle.hurd_machine.specs.Renamed.{task_renamed};
 ghost use Rattle.hurd_ports.specs.Seats.{seat_task};
-ghost use Rattle.hurd_looks.specs.Meets.{Meets};
+ghost use Rattle.hurd_looks.specs.Pairings.{PairUp};
 ghost use Rattle.hurd_looks.specs.Renamed.{HaveSameNumbers};
 
 use crate::meet::{Meet, meet_all};
@@ -93,7 +93,7 @@ fn same_numbers(seat: &TaskSeat, other: &TaskSeat) -> bool
 
 /// Pairs the names in the rights of two tasks; whether they are the same but for names. An error is want of memory.
 fn meet_seats(seat: &TaskSeat, other: &TaskSeat, pairs: &mut Pairs) -> Result<bool, AllocError>
-    ensures { IfOk result (λ met. Meets (λ f x. task_renamed f 0 x) (seat_task seat.now) (seat_task other.now) pairs.old met pairs.new) }
+    ensures { IfOk result (λ met. PairUp (λ f x. task_renamed f 0 x) (seat_task seat.now) (seat_task other.now) pairs.old met pairs.new) }
 {
     if !same_numbers(seat, other) {
         return Ok(false);

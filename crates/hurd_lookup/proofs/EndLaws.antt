@@ -39,16 +39,16 @@ pub record MakeLeads (w : World) (s : Name) (f : NewNodeAt) (ids : IdSets) : Typ
   pub stands : not (is_removed w f.dir header) ≡ true
 
 -- what an outcome shows of the world
-abbrev pub Leads : World → OpenFlags → Outcome → Type 0
-Leads w flags (Opens e) = OpenLeads w flags e
-Leads w flags (Makes s f ids ways) = MakeLeads w s f ids
-Leads w flags (Retries kind name at) = Unit {0}
-Leads w flags (Starts s) = Unit {0}
+abbrev pub OutcomeLeads : World → OpenFlags → Outcome → Type 0
+OutcomeLeads w flags (Opens e) = OpenLeads w flags e
+OutcomeLeads w flags (Makes s f ids ways) = MakeLeads w s f ids
+OutcomeLeads w flags (Retries kind name at) = Unit {0}
+OutcomeLeads w flags (Starts s) = Unit {0}
 
 -- what is known of an outcome
 pub record OutcomeShown (At Entries : Name → Type 0) (T : IdSets → Type 0) (v : World) (flags : OpenFlags) (o : Outcome) : Type 0 where
   pub on : OutcomeOn At Entries T o
-  pub leads : Leads v flags o
+  pub leads : OutcomeLeads v flags o
 
 -- what S sees of one
 abbrev pub OutcomeSeen : (ℕ → Bool) → World → OpenFlags → Outcome → Type 0

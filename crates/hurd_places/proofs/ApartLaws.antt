@@ -94,8 +94,8 @@ ends v n (d ∷ ds) way =
     subst (λ (ns : List Name). (path_along v ns ≡ []) ⊎ Ends (path_along v ns)) is (ends v d ds (way.3)))
 
 -- a node is another, where their paths and their levels are the same
-abbrev pub Meets : View → ℕ → Name → List Name → Type 0
-Meets v k n ns =
+abbrev pub ComesBy : View → ℕ → Name → List Name → Type 0
+ComesBy v k n ns =
     (e : Name) (es : List Name) → length es < k → IsWay v e es → path_along v (n ∷ ns) ≡ path_along v (e ∷ es) → level_along v (n ∷ ns) ≡ level_along v (e ∷ es) → n ≡ e
 
 differ_if : (a b : ℕ) → (a == b) ≡ false → a ≢ b
@@ -103,7 +103,7 @@ differ_if a b differ same = true≢false (sym (eq-eqb a b same) ∙ differ)
 
 -- a node of a greater level on the same path is on the active server of the other, which is covered then
 
-later_by : (v : View) (k : ℕ) (n m : Name) (ns ms : List Name) (y : Why) → Apart v → Meets v k n ns → length ms ≤ k → Found v m ms y → Sort y
+later_by : (v : View) (k : ℕ) (n m : Name) (ns ms : List Name) (y : Why) → Apart v → ComesBy v k n ns → length ms ≤ k → Found v m ms y → Sort y
     → path_along v (n ∷ ns) ≡ path_along v (m ∷ ms) → level_along v (n ∷ ns) < level_along v (m ∷ ms)
     → ((e : Name) (es : List Name) → ms ≡ e ∷ es → path_along v (n ∷ ns) ≡ path_along v (e ∷ es) → level_along v (n ∷ ns) < level_along v (e ∷ es) → is_covered v n ≡ true)
     → is_covered v n ≡ true
@@ -130,7 +130,7 @@ later_by v k n m ns ms _ apart meets few f (OfActive e) paths less rest = go (ca
     go (inl same) = ap (is_covered v) (meets e es shorter back.2 on (eqb-true (level_along v (n ∷ ns)) (level_along v (e ∷ es)) same)) ∙ apart.covered e m f.why
     go (inr differ) = let apart_levels = differ_if (level_along v (n ∷ ns)) (level_along v (e ∷ es)) differ in rest e es back.1 on (omega (arith, less, one_less, apart_levels))
 
-later : (v : View) (k : ℕ) (n m : Name) (ns ms : List Name) → Apart v → Meets v k n ns → length ms ≤ k → IsWay v m ms
+later : (v : View) (k : ℕ) (n m : Name) (ns ms : List Name) → Apart v → ComesBy v k n ns → length ms ≤ k → IsWay v m ms
     → path_along v (n ∷ ns) ≡ path_along v (m ∷ ms) → level_along v (n ∷ ns) < level_along v (m ∷ ms) → is_covered v n ≡ true
 later v k n m ns [] apart meets few way paths less =
     let f = found v m [] way in later_by v k n m ns [] f.0 apart meets few f.1 (sort f.0) paths less (λ e es is. absurd (cc))

@@ -9,7 +9,7 @@ use Rattle.hurd_world.specs.Noting.{State}
 use Rattle.hurd_trans_iface.specs.Nodes.{has_words}
 use Rattle.hurd_shell.specs.Programs.{Prog, gives, made, data_of, done_of}
 use Rattle.hurd_shell.specs.Commands.{at_cursor, cat_from, cat_read, options, prints, silent}
-use Rattle.hurd_shell.specs.Progress.{Leads}
+use Rattle.hurd_shell.specs.Progress.{LeadsTo}
 use Rattle.hurd_shell.proofs.ProgramLaws.{leads_refl, tried_ends}
 
 sub_one : (n : ℕ) → suc n - 1 ≡ n
@@ -19,14 +19,14 @@ sub_one n = omega arith
 abbrev pub reading : ℕ → Prog (List ℕ)
 reading p = made (Plain (IoRead p most_read at_cursor)) data_of
 
-cat_turn : {t : ℕ} {w x : State} (reads p : ℕ) (output : List ℕ) (r : Result (List ℕ) Errno) → 0 < reads → Leads t (reading p) w (gives r) x
-    → Leads t (cat_from reads p output) w (cat_read output (cat_from (reads - 1) p) r) x
+cat_turn : {t : ℕ} {w x : State} (reads p : ℕ) (output : List ℕ) (r : Result (List ℕ) Errno) → 0 < reads → LeadsTo t (reading p) w (gives r) x
+    → LeadsTo t (cat_from reads p output) w (cat_read output (cat_from (reads - 1) p) r) x
 unfolding cat_from
 cat_turn zero p output r some l = absurd (omega arith)
 cat_turn (suc reads) p output r some l = rw sub_one (tried_ends (cat_read output (cat_from reads p)) l)
 
 -- no more reads
-pub cat_over : {t : ℕ} {w : State} (reads p : ℕ) (output : List ℕ) → reads ≤ 0 → Leads t (cat_from reads p output) w (gives (Ok (prints output))) w
+pub cat_over : {t : ℕ} {w : State} (reads p : ℕ) (output : List ℕ) → reads ≤ 0 → LeadsTo t (cat_from reads p output) w (gives (Ok (prints output))) w
 unfolding cat_from
 cat_over zero p output none = leads_refl _ _ _
 cat_over (suc reads) p output none = absurd (omega arith)
@@ -35,20 +35,20 @@ not_none : (b : ℕ) (bs : List ℕ) → (length (b ∷ bs) == 0) ≡ false
 not_none b bs = elim (eqb_tells (suc (length bs)) 0) [ inl (e, same) ↦ absurd (omega arith) | inr (e, apart) ↦ e ]
 
 -- a read at the end
-pub cat_none : {t : ℕ} {w x : State} (reads p : ℕ) (output bytes : List ℕ) → 0 < reads → Leads t (reading p) w (gives (Ok bytes)) x → true ≡ (length bytes == 0)
-    → Leads t (cat_from reads p output) w (gives (Ok (prints output))) x
+pub cat_none : {t : ℕ} {w x : State} (reads p : ℕ) (output bytes : List ℕ) → 0 < reads → LeadsTo t (reading p) w (gives (Ok bytes)) x → true ≡ (length bytes == 0)
+    → LeadsTo t (cat_from reads p output) w (gives (Ok (prints output))) x
 cat_none reads p output [] some l none = cat_turn reads p output (Ok []) some l
 cat_none reads p output (b ∷ bs) some l none = absurd (true≢false (none ∙ not_none b bs))
 
 -- a read of some bytes
-pub cat_some : {t : ℕ} {w x : State} (reads p : ℕ) (output bytes next : List ℕ) → 0 < reads → Leads t (reading p) w (gives (Ok bytes)) x → false ≡ (length bytes == 0)
-    → next ≡ output ++ bytes → Leads t (cat_from reads p output) w (cat_from (reads - 1) p next) x
+pub cat_some : {t : ℕ} {w x : State} (reads p : ℕ) (output bytes next : List ℕ) → 0 < reads → LeadsTo t (reading p) w (gives (Ok bytes)) x → false ≡ (length bytes == 0)
+    → next ≡ output ++ bytes → LeadsTo t (cat_from reads p output) w (cat_from (reads - 1) p next) x
 cat_some reads p output [] next some l full same = absurd (true≢false (sym full))
 cat_some reads p output (b ∷ bs) next some l full same = rw same (cat_turn reads p output (Ok (b ∷ bs)) some l)
 
 -- a refused read
-pub cat_err : {t : ℕ} {w x : State} (reads p : ℕ) (output : List ℕ) (e : Errno) → 0 < reads → Leads t (reading p) w (gives (Err e)) x
-    → Leads t (cat_from reads p output) w (gives (Ok (record { output = output; refusal = Some e }))) x
+pub cat_err : {t : ℕ} {w x : State} (reads p : ℕ) (output : List ℕ) (e : Errno) → 0 < reads → LeadsTo t (reading p) w (gives (Err e)) x
+    → LeadsTo t (cat_from reads p output) w (gives (Ok (record { output = output; refusal = Some e }))) x
 cat_err reads p output e some l = cat_turn reads p output (Err e) some l
 
 -- with words, they are given to the server

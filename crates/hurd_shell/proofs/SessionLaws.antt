@@ -27,7 +27,7 @@ use Rattle.hurd_shell.specs.declared.stages.Waiting.{Waiting}
 use Rattle.hurd_shell.specs.declared.transcript.Turn.{Turn}
 use Rattle.hurd_shell.specs.declared.transcript.Turn.TheVariants.{Told, Waits}
 use Rattle.hurd_shell.specs.Programs.{Pause, Prog, gives, calls, asks, bind, on_ok, go}
-use Rattle.hurd_shell.specs.Progress.{Does, Leads, Reaches, stopped}
+use Rattle.hurd_shell.specs.Progress.{DoesAll, LeadsTo, Reaches, stopped}
 use Rattle.hurd_shell.specs.Stages.{answer_with, progress_on, stage_behind, waiting_on}
 use Rattle.hurd_shell.specs.Session.{Answers, HangsTogether, Takes, Tells, command_on, is_failed, left_of, waits_by}
 use Rattle.hurd_shell.specs.Transcript.{Dialogue, ends, tells, dialogue, part_by, part_of, played, AsksFor}
@@ -43,7 +43,7 @@ played_goes t (calls c k) w next = played_goes t (k (reply_of w t c)) (after w t
 played_goes t (asks words k) w next = refl
 
 -- a program that comes to another tells what that tells
-pub leads_played : {A : Type 0} {t : ℕ} {p q : Prog A} {w x : State} (next : Result A Errno → World → Dialogue) → Leads t p w q x → played t p w.world next ≡ played t q x.world next
+pub leads_played : {A : Type 0} {t : ℕ} {p q : Prog A} {w x : State} (next : Result A Errno → World → Dialogue) → LeadsTo t p w q x → played t p w.world next ≡ played t q x.world next
 leads_played {A} {t} {p} {q} {w} {x} next l =
     played_goes t p w.world next ∙ (ap (λ (z : Pause A). played t z.rest z.world next) l.goes ∙ sym (played_goes t q x.world next))
 
@@ -56,7 +56,7 @@ abbrev behind : CommandLine → (World → Dialogue) → Result Printed Errno �
 behind c next r x = tells (part_by c (part_of c r) x) (next x)
 
 ended : (c : CommandLine) (p : Prog Printed) (w x : State) (r : Result Printed Errno) (turn : Turn) (next : World → Dialogue)
-    → Leads c.task p w (gives r) x → Some turn ≡ Some (Told (part_of c r)) → played c.task p w.world (behind c next) ≡ turn_on c next turn x.world
+    → LeadsTo c.task p w (gives r) x → Some turn ≡ Some (Told (part_of c r)) → played c.task p w.world (behind c next) ≡ turn_on c next turn x.world
 ended c p w x r turn next l same =
     let told : turn ≡ Told (part_of c r) = cc in
     rw told (leads_played (behind c next) l ∙ played_gives c.task r x.world (behind c next))
@@ -133,16 +133,16 @@ pub waits_asks : (c : CommandLine) (next : World → Dialogue) (waiting : Waitin
 unfolding played
 waits_asks c next waiting x = refl
 
-bind_leads : {A B : Type 0} {t : ℕ} {p q : Prog A} {w x : State} (k : A → Prog B) → Leads t p w q x → Leads t (bind p k) w (bind q k) x
+bind_leads : {A B : Type 0} {t : ℕ} {p q : Prog A} {w x : State} (k : A → Prog B) → LeadsTo t p w q x → LeadsTo t (bind p k) w (bind q k) x
 unfolding bind
 bind_leads k l = tried_leads (on_ok k) l
 
-behind_leads : {t : ℕ} {w x : State} (stage : Stage) (p q : Prog (Unit {0})) → Leads t p w q x → Leads t (stage_behind stage p) w (stage_behind stage q) x
+behind_leads : {t : ℕ} {w x : State} (stage : Stage) (p q : Prog (Unit {0})) → LeadsTo t p w q x → LeadsTo t (stage_behind stage p) w (stage_behind stage q) x
 behind_leads (Opens o work) p q l = bind_leads _ (held_leads o.held.items (bind_leads _ l))
 behind_leads (Enters port o name work) p q l = tried_leads _ (bind_leads _ (held_leads o.held.items (bind_leads _ l)))
 behind_leads (Sets port setting) p q l = tried_leads _ (bind_leads _ l)
 
-does_leads : {A : Type 0} {t : ℕ} {p : Prog A} {w x : State} (answer : Result A Errno) → Does t p w (stopped answer) x → Leads t p w (gives answer) x
+does_leads : {A : Type 0} {t : ℕ} {p : Prog A} {w x : State} (answer : Result A Errno) → DoesAll t p w (stopped answer) x → LeadsTo t p w (gives answer) x
 does_leads (Ok a) d = d.ends
 does_leads (Err e) d = d.ends
 
@@ -153,7 +153,7 @@ unfolding played
 answers_wanted c next waiting server w left same = same
 
 answered_left : (c : CommandLine) (ds : List CommandLine) (waiting : Waiting) (server : Option Meaning) (stage : Stage) (answer : Result (Unit {0}) Errno) (w x : State)
-    → stage ≡ waiting.stage → Does c.task (answer_with waiting.stage waiting.words server) w (stopped answer) x
+    → stage ≡ waiting.stage → DoesAll c.task (answer_with waiting.stage waiting.words server) w (stopped answer) x
     → Answers (left_of (phase.Waiting waiting) (c ∷ ds) w.world) server (left_of (phase.Answered stage answer) (c ∷ ds) x.world)
 answered_left c ds waiting server stage answer w x same d =
     rw same
@@ -162,7 +162,7 @@ answered_left c ds waiting server stage answer w x same d =
 
 -- a session that was answered has to tell what follows the answer
 pub answered : (cs : List CommandLine) (k : ℕ) (c : CommandLine) (waiting : Waiting) (server : Option Meaning) (stage : Stage) (answer : Result (Unit {0}) Errno) (w x : State)
-    → k < length cs → c ≡ get_or cs k c → stage ≡ waiting.stage → Does c.task (answer_with waiting.stage waiting.words server) w (stopped answer) x
+    → k < length cs → c ≡ get_or cs k c → stage ≡ waiting.stage → DoesAll c.task (answer_with waiting.stage waiting.words server) w (stopped answer) x
     → Answers (left_of (phase.Waiting waiting) (drop k cs) w.world) server (left_of (phase.Answered stage answer) (drop k cs) x.world)
 answered cs k c waiting server stage answer w x within here same d =
     subst (λ (ds : List CommandLine). Answers (left_of (phase.Waiting waiting) ds w.world) server (left_of (phase.Answered stage answer) ds x.world)) (sym (at_command cs k c within here))
@@ -172,7 +172,7 @@ answered cs k c waiting server stage answer w x within here same d =
 pub took : {S : Type 0} (f : S → Meaning) (world left : Whole S) (commands : List CommandLine) (given : ℕ) (at : Phase) (c : CommandLine) (waiting : Waiting)
     (server : Option Meaning) (stage : Stage) (answer : Result (Unit {0}) Errno)
     → at ≡ phase.Waiting waiting → (waits_by at && nat_lt given (length commands)) ≡ true → c ≡ get_or commands given c → stage ≡ waiting.stage
-    → Does c.task (answer_with waiting.stage waiting.words server) (state_of f world) (stopped answer) (state_of f left)
+    → DoesAll c.task (answer_with waiting.stage waiting.words server) (state_of f world) (stopped answer) (state_of f left)
     → Takes f (record { world = world; commands = commands; given = given; phase = at }) server
     (record { world = left; commands = commands; given = given; phase = phase.Answered stage answer })
 took f world left commands given at c waiting server stage answer is waits here same d =
@@ -189,7 +189,7 @@ took f world left commands given at c waiting server stage answer is waits here 
 -- and its world hangs together
 pub took_sound : {S : Type 0} (f : S → Meaning) (world left : Whole S) (commands : List CommandLine) (given : ℕ) (at : Phase) (t : ℕ) (waiting : Waiting)
     (server : Option Meaning) (stage : Stage) (answer : Result (Unit {0}) Errno)
-    → at ≡ phase.Waiting waiting → Does t (answer_with waiting.stage waiting.words server) (state_of f world) (stopped answer) (state_of f left)
+    → at ≡ phase.Waiting waiting → DoesAll t (answer_with waiting.stage waiting.words server) (state_of f world) (stopped answer) (state_of f left)
     → HangsTogether f (record { world = world; commands = commands; given = given; phase = at })
     → HangsTogether f (record { world = left; commands = commands; given = given; phase = phase.Answered stage answer })
 took_sound f world left commands given at t waiting server stage answer is d hangs = λ fine. does_sound answer d (hangs (ap is_failed is))
@@ -212,7 +212,7 @@ told_stays c p w x r (Ok turn) d same = turned_stays c p w x r turn d same
 told_stays c p w x r (Err e) d same = tt
 
 -- and so it does where an answer was taken
-pub took_stays : {A : Type 0} {t : ℕ} {p : Prog A} {w x : State} (answer : Result A Errno) → Does t p w (stopped answer) x → NotesWhatIsTouched w x
+pub took_stays : {A : Type 0} {t : ℕ} {p : Prog A} {w x : State} (answer : Result A Errno) → DoesAll t p w (stopped answer) x → NotesWhatIsTouched w x
 took_stays answer d = (does_leads answer d).stays
 
 -- what a session gives after a turn

@@ -22,29 +22,29 @@ use Rattle.hurd_shell.specs.declared.stages.Work.{Work}
 use Rattle.hurd_shell.specs.declared.stages.Work.TheVariants as work
 use Rattle.hurd_shell.specs.Programs.{Prog, gives, tried, bind, on_ok, made, closing, unread}
 use Rattle.hurd_shell.specs.Commands.{prints, program_of, set, setting_with, silent}
-use Rattle.hurd_shell.specs.Progress.{Does, ReachesTo, Reaches}
+use Rattle.hurd_shell.specs.Progress.{DoesAll, ReachesTo, Reaches}
 use Rattle.hurd_shell.specs.Stages.{entry_work_of, progress_on, reached_on, work_of}
 use Rattle.hurd_shell.proofs.ProgramLaws.{does_close, does_gives, does_ok, leads_reaches, leads_refl, tried_ends, tried_leads}
 
 -- a command came to its end
-pub ended : {t : ℕ} {p : Prog Printed} {printed : Printed} {w x : State} → Does t p w (Ok printed) x → Reaches t p w progress_on (Ok (progress.Ended printed)) x
+pub ended : {t : ℕ} {p : Prog Printed} {printed : Printed} {w x : State} → DoesAll t p w (Ok printed) x → Reaches t p w progress_on (Ok (progress.Ended printed)) x
 ended d = record { reaches = d.ends }
 
-stopped_reaches : {A B : Type 0} (t : ℕ) (p : Prog A) (w x : State) (left : B → Prog A) (s : Stop) → Does {A = A} t p w (Err s) x → ReachesTo {B = B} t p w left (Err s) x
+stopped_reaches : {A B : Type 0} (t : ℕ) (p : Prog A) (w x : State) (left : B → Prog A) (s : Stop) → DoesAll {A = A} t p w (Err s) x → ReachesTo {B = B} t p w left (Err s) x
 stopped_reaches t p w x left (Refused e) d = d.ends
 stopped_reaches t p w x left Memory d = tt
 
 -- out by `?`: a program was refused
-pub stops : {A B : Type 0} {t : ℕ} {p : Prog A} {s : Stop} {r : Result B Stop} {w x : State} {left : B → Prog A} → IsErr r × IsErrAnd r (λ e. e ≡ s) → Does {A = A} t p w (Err s) x → Reaches t p w left r x
+pub stops : {A B : Type 0} {t : ℕ} {p : Prog A} {s : Stop} {r : Result B Stop} {w x : State} {left : B → Prog A} → IsErr r × IsErrAnd r (λ e. e ≡ s) → DoesAll {A = A} t p w (Err s) x → Reaches t p w left r x
 stops {r = Ok b} gone d = absurd gone.1
 stops {r = Err e} {left = left} gone d = record { reaches = rw gone.1 (stopped_reaches _ _ _ _ left _ d) }
 
 -- a refusal is the end
-pub does_refuse : {A : Type 0} (t : ℕ) (e : Errno) (w : State) → Does {A = A} t (gives (Err e)) w (Err (Refused e)) w
+pub does_refuse : {A : Type 0} (t : ℕ) (e : Errno) (w : State) → DoesAll {A = A} t (gives (Err e)) w (Err (Refused e)) w
 does_refuse t e w = record { ends = leads_refl _ _ _ }
 
 -- the first of two programs is refused, and so are both
-pub err_does : {A B : Type 0} {t : ℕ} {p : Prog A} {w x : State} (k : A → Prog B) (s : Stop) → Does {A = A} t p w (Err s) x → Does {A = B} t (bind p k) w (Err s) x
+pub err_does : {A B : Type 0} {t : ℕ} {p : Prog A} {w x : State} (k : A → Prog B) (s : Stop) → DoesAll {A = A} t p w (Err s) x → DoesAll {A = B} t (bind p k) w (Err s) x
 unfolding bind
 err_does k (Refused e) d = record { ends = tried_ends (on_ok k) d.ends }
 err_does k Memory d = record { ends = tt }
@@ -110,17 +110,17 @@ sets_none port setting words true none d = absurd (cc)
 sets_none port setting words false none d = d
 
 -- a translator was set, and the node is given up
-pub set_closed : {t : ℕ} {w x : State} (port : ℕ) (u v : Unit {0}) → Does t (made (Plain (PortDeallocate port)) unread) w (Ok u) x
+pub set_closed : {t : ℕ} {w x : State} (port : ℕ) (u v : Unit {0}) → DoesAll t (made (Plain (PortDeallocate port)) unread) w (Ok u) x
     → Reaches t (closing port (silent (gives (Ok v)))) w progress_on (Ok (progress.Ended (prints []))) x
 set_closed port u v d = ended (does_close port u (does_ok {a = v} (λ z. gives (Ok (prints []))) (does_gives _ _ _) (does_gives _ _ _)) d)
 
 -- no translator was set, and the node is given up
-pub unset_closed : {t : ℕ} {w x : State} (port : ℕ) (u : Unit {0}) (e : Errno) → Does t (made (Plain (PortDeallocate port)) unread) w (Ok u) x
+pub unset_closed : {t : ℕ} {w x : State} (port : ℕ) (u : Unit {0}) (e : Errno) → DoesAll t (made (Plain (PortDeallocate port)) unread) w (Ok u) x
     → Reaches {B = Progress} t (closing port (silent (gives (Err e)))) w progress_on (Err (Refused e)) x
 unset_closed port u e d = record { reaches = (does_close port u (err_does (λ z. gives (Ok (prints []))) (Refused e) (does_refuse _ _ _)) d).ends }
 
 -- what was refused is refused, and the port is given up
-pub refused_closed : {t : ℕ} {w x : State} (port : ℕ) (u : Unit {0}) (e : Errno) (s : Stop) → s ≡ Refused e → Does t (made (Plain (PortDeallocate port)) unread) w (Ok u) x
+pub refused_closed : {t : ℕ} {w x : State} (port : ℕ) (u : Unit {0}) (e : Errno) (s : Stop) → s ≡ Refused e → DoesAll t (made (Plain (PortDeallocate port)) unread) w (Ok u) x
     → Reaches {B = Progress} t (closing port (gives (Err e))) w progress_on (Err s) x
 refused_closed port u e s same d = rw same (record { reaches = (does_close port u (does_refuse _ _ _) d).ends })
 

@@ -28,23 +28,23 @@ stopped (Ok a) = Ok a
 stopped (Err e) = Err (Refused e)
 
 -- task t comes, by calls, from the program p in w to the program q in x; what is noted stays right
-pub record Leads {A : Type 0} (t : ℕ) (p : Prog A) (w : State) (q : Prog A) (x : State) : Type 0 where
+pub record LeadsTo {A : Type 0} (t : ℕ) (p : Prog A) (w : State) (q : Prog A) (x : State) : Type 0 where
   pub goes : go t p w.world ≡ go t q x.world
   pub stays : NotesWhatIsTouched w x
 
 -- where a program of task t ends: with what the code has, unless memory was refused
 abbrev pub Ends : {A : Type 0} → ℕ → Prog A → State → Result A Stop → State → Type 0
-Ends t p w (Ok a) x = Leads t p w (gives (Ok a)) x
-Ends t p w (Err (Refused e)) x = Leads t p w (gives (Err e)) x
+Ends t p w (Ok a) x = LeadsTo t p w (gives (Ok a)) x
+Ends t p w (Err (Refused e)) x = LeadsTo t p w (gives (Err e)) x
 Ends t p w (Err Memory) x = Unit {0}
 
 -- task t made all of the program p, from w on, and the code has its end
-pub record Does {A : Type 0} (t : ℕ) (p : Prog A) (w : State) (r : Result A Stop) (x : State) : Type 0 where
+pub record DoesAll {A : Type 0} (t : ℕ) (p : Prog A) (w : State) (r : Result A Stop) (x : State) : Type 0 where
   pub ends : Ends t p w r x
 
 -- the same of the worlds that the code holds
 abbrev pub Ran : {S A : Type 0} → (S → Meaning) → ℕ → Prog A → Whole S → Result A Stop → Whole S → Type 0
-Ran f t p old r new = Does t p (state_of f old) r (state_of f new)
+Ran f t p old r new = DoesAll t p (state_of f old) r (state_of f new)
 
 -- a program, and behind its end these ports are given up, the last first
 unfoldable pub releasing : List ℕ → Prog ℕ → Prog ℕ
@@ -68,8 +68,8 @@ found_on flags (ending.Starts words left target) = starting (opening (look left 
 
 -- where a program of task t comes to, with ports to give up: to what is left where the code goes on, or to a refusal
 abbrev pub ComesTo : {B : Type 0} → ℕ → Prog ℕ → State → (B → Prog ℕ) → List ℕ → Result B Stop → State → Type 0
-ComesTo t p w left held (Ok b) x = Leads t p w (releasing held (left b)) x
-ComesTo t p w left held (Err (Refused e)) x = Leads t p w (releasing held (gives (Err e))) x
+ComesTo t p w left held (Ok b) x = LeadsTo t p w (releasing held (left b)) x
+ComesTo t p w left held (Err (Refused e)) x = LeadsTo t p w (releasing held (gives (Err e))) x
 ComesTo t p w left held (Err Memory) x = Unit {0}
 
 -- task t went on from the program p in w, and holds ports in x
@@ -82,8 +82,8 @@ Went f t before p old left held r new = Comes t (releasing before p) (state_of f
 
 -- where a program of task t comes to: to what is left where the code goes on, or to a refusal
 abbrev pub ReachesTo : {A B : Type 0} → ℕ → Prog A → State → (B → Prog A) → Result B Stop → State → Type 0
-ReachesTo t p w left (Ok b) x = Leads t p w (left b) x
-ReachesTo t p w left (Err (Refused e)) x = Leads t p w (gives (Err e)) x
+ReachesTo t p w left (Ok b) x = LeadsTo t p w (left b) x
+ReachesTo t p w left (Err (Refused e)) x = LeadsTo t p w (gives (Err e)) x
 ReachesTo t p w left (Err Memory) x = Unit {0}
 
 -- task t went on from the program p in w

@@ -7,7 +7,7 @@ ghost use Rattle.hurd_world.specs.Held.{state_of};
 ghost use Rattle.hurd_world.specs.Noting.{State};
 ghost use Rattle.hurd_shell.specs.Programs.{gives};
 ghost use Rattle.hurd_shell.specs.Looking as written;
-ghost use Rattle.hurd_shell.specs.Progress.{Arrived, Comes, Leads, Went, found_on, opening, opening_on, releasing};
+ghost use Rattle.hurd_shell.specs.Progress.{Arrived, Comes, LeadsTo, Went, found_on, opening, opening_on, releasing};
 ghost use Rattle.hurd_shell.specs.Stages.{opening_behind, reached_on};
 
 use crate::calls;
@@ -125,7 +125,7 @@ fn give_up<S: Server>(
     task: TaskId,
     held: Vec<u64>,
 ) -> Result<(), NoMemory>
-    ensures { IfOk result (λ u. (end : Result ℕ Errno) → Leads task.0 (releasing held.items (gives end)) (state_of S.meaning world.old)
+    ensures { IfOk result (λ u. (end : Result ℕ Errno) → LeadsTo task.0 (releasing held.items (gives end)) (state_of S.meaning world.old)
         (gives end) (state_of S.meaning world.new)) }
 {
     let mut held = held;

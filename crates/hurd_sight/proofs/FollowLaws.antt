@@ -6,7 +6,7 @@ use Rattle.std.proofs.lemmas.Bool.{ltb-false, ltb-true}
 use Rattle.std.proofs.lemmas.List.{take-append-le}
 use Rattle.std.proofs.lemmas.Option.{get_or_from_slice_get, slice_get_within}
 use Rattle.hurd_machine.proofs.Common.{IdSets, IsAmong, Name, NodeState, Task, TaskId, boot_root}
-use Rattle.hurd_sight.specs.Found.{Follows, FoundAll, FoundIsOne, gathered, is_found, of_node, of_nodes, of_plain, of_tasks}
+use Rattle.hurd_sight.specs.Found.{AllThatFollows, FoundAll, FoundIsOne, gathered, is_found, of_node, of_nodes, of_plain, of_tasks}
 use Rattle.hurd_sight.specs.declared.found.Why.{Why}
 use Rattle.hurd_sight.specs.declared.found.Why.TheVariants as why
 use Rattle.hurd_sight.proofs.FoundLaws.{Entries, among_flat, among_found, among_taken, flat_among, flat_next, found_among, gathered_both, gathered_grown, gathered_kept, gathered_said, gathered_there, taken_among}
@@ -87,7 +87,7 @@ module _ (f : Name → Entries) where
           ∙ (ap (take (suc k)) before.all ∙ ap (λ (gs : Entries). take (suc k) (gathered (of_nodes f gs) start)) (sym (same k (omega (arith, inside)))))
 
   -- where no more are left, all were followed
-  pub follow_end : (start es : Entries) (k : ℕ) → Following k start es → None ≡ option_map (λ (e : Name × Why). e.0) (slice_get es k) → Follows f start es
+  pub follow_end : (start es : Entries) (k : ℕ) → Following k start es → None ≡ option_map (λ (e : Name × Why). e.0) (slice_get es k) → AllThatFollows f start es
   follow_end start es k before none = record { all = all; next = λ j. at j (ltb j k) refl }
     where
       past : length es ≤ k
@@ -107,7 +107,7 @@ module _ (f : Name → Entries) where
           ap (take (suc j)) (all ∙ ap (λ (gs : Entries). gathered (of_nodes f gs) start) (sym (take_all j es (omega (arith, not_below, past)))))
 
 -- what a list that follows of some nodes shows
-module _ (f : Name → Entries) (start es : Entries) (it : Follows f start es) where
+module _ (f : Name → Entries) (start es : Entries) (it : AllThatFollows f start es) where
   -- it begins with these
   pub follows_grown : (more : Entries) × (es ≡ start ++ more)
   follows_grown = let grown = gathered_grown (of_nodes f es) start in (grown.0, it.all ∙ grown.1)
@@ -162,12 +162,12 @@ plain_grown h ts ids tasks es all =
 
 -- there is one list
 
-one_front : (f : Name → Entries) (start es fs : Entries) → Follows f start es → Follows f start fs → (k : ℕ) → take k es ≡ take k fs
+one_front : (f : Name → Entries) (start es fs : Entries) → AllThatFollows f start es → AllThatFollows f start fs → (k : ℕ) → take k es ≡ take k fs
 one_front f start es fs x y zero = refl
 one_front f start es fs x y (suc k) =
     x.next k ∙ (ap (λ (gs : Entries). take (suc k) (gathered (of_nodes f gs) start)) (one_front f start es fs x y k) ∙ sym (y.next k))
 
-one_follows : (f : Name → Entries) (start es fs : Entries) → Follows f start es → Follows f start fs → es ≡ fs
+one_follows : (f : Name → Entries) (start es fs : Entries) → AllThatFollows f start es → AllThatFollows f start fs → es ≡ fs
 one_follows f start es fs x y =
     let k : ℕ = length es + length fs in
     sym (take_all k es (omega arith)) ∙ (one_front f start es fs x y k ∙ take_all k fs (omega arith))
@@ -176,4 +176,4 @@ pub found_is_one : FoundIsOne
 found_is_one h ts ids tasks es fs x y =
     let plain = one_follows (of_plain h ids) ((boot_root, why.Root) ∷ []) x.plain y.plain x.first y.first in
     one_follows (of_node h ids) (gathered (of_tasks h ts tasks) y.plain) es fs
-    (subst (λ (gs : Entries). Follows (of_node h ids) (gathered (of_tasks h ts tasks) gs) es) plain x.follows) y.follows
+    (subst (λ (gs : Entries). AllThatFollows (of_node h ids) (gathered (of_tasks h ts tasks) gs) es) plain x.follows) y.follows

@@ -7,7 +7,7 @@ use Rattle.std.proofs.lemmas.Bool.{ltb-true}
 use Rattle.std.proofs.lemmas.List.{take-append-le}
 use Rattle.hurd_machine.proofs.Common.{IdSets, IsAmong, Name, NodeState, Task, TaskId}
 use Rattle.hurd_machine.specs.World.{boot_root}
-use Rattle.hurd_sight.specs.Found.{Follows, FoundAll, gathered, is_found, of_active, of_children, of_node, of_nodes, of_parent, of_plain, of_rest, of_server, of_targets, of_tasks}
+use Rattle.hurd_sight.specs.Found.{AllThatFollows, FoundAll, gathered, is_found, of_active, of_children, of_node, of_nodes, of_parent, of_plain, of_rest, of_server, of_targets, of_tasks}
 use Rattle.hurd_sight.specs.declared.found.Why.{Why}
 use Rattle.hurd_sight.specs.declared.found.Why.TheVariants as why
 use Rattle.hurd_sight.proofs.FoundLaws.{Entries, among_flat, among_taken, gathered-append, gathered_both, gathered_grown, gathered_kept, gathered_nothing, gathered_there, taken_front}
@@ -88,7 +88,7 @@ module _ (h : NodeState) (ids : IdSets) where
       go false is = refl
 
   -- the first round leaves what the second one asks for
-  module _ (xs plain start : Entries) (first : Follows (of_plain h ids) ((boot_root, why.Root) ∷ []) plain) (step : start ≡ gathered xs plain) where
+  module _ (xs plain start : Entries) (first : AllThatFollows (of_plain h ids) ((boot_root, why.Root) ∷ []) plain) (step : start ≡ gathered xs plain) where
     grown : (more : Entries) × (start ≡ plain ++ more)
     grown = let it = gathered_grown xs plain in (it.0, step ∙ it.1)
 
@@ -107,10 +107,10 @@ module _ (h : NodeState) (ids : IdSets) where
         ∙ gathered_kept n xs plain (ap (is_found n) first.all ∙ gathered_there n y (of_nodes (of_plain h ids) plain) ((boot_root, why.Root) ∷ []) a)))
 
 -- both rounds
-pub both_rounds : (h : NodeState) (ts : List Task) (ids : IdSets) (tasks : List TaskId) (plain start es : Entries) → Follows (of_plain h ids) ((boot_root, why.Root) ∷ []) plain
-    → start ≡ gathered (of_tasks h ts tasks) plain → Follows (of_node h ids) start es → FoundAll h ts ids tasks es
+pub both_rounds : (h : NodeState) (ts : List Task) (ids : IdSets) (tasks : List TaskId) (plain start es : Entries) → AllThatFollows (of_plain h ids) ((boot_root, why.Root) ∷ []) plain
+    → start ≡ gathered (of_tasks h ts tasks) plain → AllThatFollows (of_node h ids) start es → FoundAll h ts ids tasks es
 both_rounds h ts ids tasks plain start es first rights all = record {
   plain = plain;
   first = first;
-  follows = subst (λ (gs : Entries). Follows (of_node h ids) gs es) rights all;
+  follows = subst (λ (gs : Entries). AllThatFollows (of_node h ids) gs es) rights all;
 }

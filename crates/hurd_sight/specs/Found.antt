@@ -175,15 +175,15 @@ abbrev pub of_nodes : (Name → List (Name × Why)) → List (Name × Why) → L
 of_nodes f es = flat_map (λ (e : Name × Why). f e.0) es
 
 -- all that follows of some nodes by f: nothing else is shown by any of them, and each next one is what comes next of those that the ones before it show
-pub record Follows (f : Name → List (Name × Why)) (start es : List (Name × Why)) : Type 0 where
+pub record AllThatFollows (f : Name → List (Name × Why)) (start es : List (Name × Why)) : Type 0 where
   pub all : es ≡ gathered (of_nodes f es) start
   pub next : (k : ℕ) → take (suc k) es ≡ take (suc k) (gathered (of_nodes f (take k es)) start)
 
 -- all that is found, in its order: what entries and active servers show from the root on; then what rights show, and all that follows
 pub record FoundAll (h : NodeState) (ts : List Task) (ids : IdSets) (tasks : List TaskId) (es : List (Name × Why)) : Type 0 where
   pub plain : List (Name × Why)
-  pub first : Follows (of_plain h ids) ((boot_root, why.Root) ∷ []) plain
-  pub follows : Follows (of_node h ids) (gathered (of_tasks h ts tasks) plain) es
+  pub first : AllThatFollows (of_plain h ids) ((boot_root, why.Root) ∷ []) plain
+  pub follows : AllThatFollows (of_node h ids) (gathered (of_tasks h ts tasks) plain) es
 
 -- there is one such list
 abbrev pub FoundIsOne : Type 0

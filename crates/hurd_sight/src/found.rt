@@ -12,7 +12,7 @@ ghost use Rattle.hurd_machine.specs.World.{boot_root};
 ghost use Rattle.hurd_ports.specs.Seats.{seat_task};
 ghost use Rattle.hurd_ports.specs.Tables.{rights_of, start_of};
 ghost use Rattle.hurd_ports.specs.declared.table.Port.{Port};
-ghost use Rattle.hurd_sight.specs.Found.{Follows, FoundAll, FoundIsOne, FoundIsSeen, PlainIsFirst, found_more, gathered, is_found, of_active, of_children, of_entry, of_node, of_nodes, of_parent, of_plain, of_rest, of_right, of_server, of_target, of_targets, of_task, of_way, parent_in, root_of, searched_by, served_root, targets_of, why_of, with_why};
+ghost use Rattle.hurd_sight.specs.Found.{AllThatFollows, FoundAll, FoundIsOne, FoundIsSeen, PlainIsFirst, found_more, gathered, is_found, of_active, of_children, of_entry, of_node, of_nodes, of_parent, of_plain, of_rest, of_right, of_server, of_target, of_targets, of_task, of_way, parent_in, root_of, searched_by, served_root, targets_of, why_of, with_why};
 ghost use Rattle.hurd_sight.specs.declared.found.Why.{Why};
 ghost use Rattle.hurd_sight.specs.declared.found.Why.TheVariants as why;
 
@@ -87,7 +87,7 @@ impl Found {
 
     /// The nodes to which entries and active servers alone lead from the root.
     fn plain<S: Server>(alloc: Global, nodes: &Nodes<S>, reach: &Reach) -> Result<Found, AllocError>
-        ensures { IfOk result (λ found. Follows (of_plain (shown S.meaning nodes.now) reach.now) ((boot_root, why.Root) ∷ []) found) }
+        ensures { IfOk result (λ found. AllThatFollows (of_plain (shown S.meaning nodes.now) reach.now) ((boot_root, why.Root) ∷ []) found) }
     {
         let mut found = Found {
             nodes: IndexMap::new(alloc),
@@ -282,7 +282,7 @@ impl Found {
         nodes: &Nodes<S>,
         reach: &Reach,
     ) -> Result<(), AllocError>
-        ensures { OnOk result (Follows (of_plain (shown S.meaning nodes.now) reach.now) self.old self.new) }
+        ensures { OnOk result (AllThatFollows (of_plain (shown S.meaning nodes.now) reach.now) self.old self.new) }
     {
         let mut index = 0;
         while let Some(node) = self.node_at(index) {
@@ -303,7 +303,7 @@ impl Found {
     ) -> Result<(), AllocError>
         requires so_many { plain ≤ length self.now }
         requires there { self.now ≡ gathered (of_nodes (of_plain (shown S.meaning nodes.now) reach.now) (take plain self.now)) self.now }
-        ensures { OnOk result (Follows (of_node (shown S.meaning nodes.now) reach.now) self.old self.new) }
+        ensures { OnOk result (AllThatFollows (of_node (shown S.meaning nodes.now) reach.now) self.old self.new) }
     {
         let mut index = 0;
         while let Some(node) = self.node_at(index) {

@@ -25,7 +25,7 @@ use Rattle.hurd_trans_iface.proofs.NodeSteps.{step-node, told-here}
 use Rattle.hurd_small.specs.declared.presence.LoneNode.{LoneNode}
 use Rattle.hurd_small.specs.declared.presence.Presence.{Presence}
 use Rattle.hurd_small.specs.declared.presence.Presence.TheVariants.{Nameless, There, Forgotten}
-use Rattle.hurd_small.specs.Calls.{Does}
+use Rattle.hurd_small.specs.Calls.{AnswersSo}
 use Rattle.hurd_small.specs.Lone.{body_with, node_of, nodes_of, root_name, lone_meaning, barred_by, text_taken}
 
 -- maps of one value, and of none
@@ -257,8 +257,8 @@ module _ (kind : ServerKind) (text : List ℕ) (held : List ℕ) (p : Presence) 
         (subst (λ (e : Effect T). Steps (node_of kind text held r) (served e (node_of kind text held r)) got (node_of kind text new r)) effect-fits steps) (nodes-kept new))
 
     -- so it is by a call that takes no memory, and one answers as its keeper does
-    pub done-kept : (same_text : List ℕ) (new : List ℕ) → same_text ≡ text → Does q kind text held got same_text new → Steps meaning (step_of q n meaning) got (lone_meaning kind same_text new p) × (got ≡ (step_of q n meaning).0)
-    unfolding Does
+    pub done-kept : (same_text : List ℕ) (new : List ℕ) → same_text ≡ text → AnswersSo q kind text held got same_text new → Steps meaning (step_of q n meaning) got (lone_meaning kind same_text new p) × (got ≡ (step_of q n meaning).0)
+    unfolding AnswersSo
     done-kept same_text new same does = (step-kept same_text new same (steps-told effect (node_of kind text held r) (node_of kind same_text new r) got (does r)), ap (λ s. s.0) (does r) ∙ told-kept)
 
   -- nothing that the node's header says is edited

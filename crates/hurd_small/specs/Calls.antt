@@ -9,8 +9,8 @@ use Rattle.hurd_small.specs.declared.presence.LoneNode.{LoneNode}
 use Rattle.hurd_small.specs.Lone.{node_of}
 
 -- it answers so, and leaves a server of this text whose node holds these bytes
-unfoldable pub Does : {T : Type 0} → Question T → ServerKind → List ℕ → List ℕ → Result T Errno → List ℕ → List ℕ → Type 0
-Does q kind text held got new_text new_held =
+unfoldable pub AnswersSo : {T : Type 0} → Question T → ServerKind → List ℕ → List ℕ → Result T Errno → List ℕ → List ℕ → Type 0
+AnswersSo q kind text held got new_text new_held =
     (n : LoneNode) → let x = node_of kind text held n in (got, node_of kind new_text new_held n) ≡ served (q (behaviour_of kind) text x) x
 
 -- it does that, or finds no memory and changes nothing

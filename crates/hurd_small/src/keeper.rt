@@ -4,7 +4,7 @@ ghost use Rattle.hurd_creds.specs.Memory.{Meets, Steps};
 ghost use Rattle.hurd_trans_iface.specs.Behaviour.{reading, resizing, writing};
 ghost use Rattle.hurd_trans_iface.specs.Meaning.{behaviour_of, counts_opens, keeps_tree, options_of, root_of, targets_of};
 ghost use Rattle.hurd_trans_iface.specs.declared.begun.ServerKind.{ServerKind};
-ghost use Rattle.hurd_small.specs.Calls.{Does, Readable, TakesNone, Tries};
+ghost use Rattle.hurd_small.specs.Calls.{AnswersSo, Readable, TakesNone, Tries};
 ghost use Rattle.hurd_small.specs.Lone.{body_with, text_taken};
 
 use hurd_creds::{Bytes, Errno};
@@ -80,7 +80,7 @@ pub trait Keeper: Drop {
     ///
     /// Errors: what its kind says.
     fn write(&mut self, at: u64, bytes: &[u8], readers: u128) -> Result<u64, Errno>
-        ensures steps { Does (writing at bytes.now readers) (kind self.old) (text self.old) (held self.old) result (text self.new) (held self.new) }
+        ensures steps { AnswersSo (writing at bytes.now readers) (kind self.old) (text self.old) (held self.old) result (text self.new) (held self.new) }
         ensures kind { kind self.new ≡ kind self.old }
         ensures text { text self.new ≡ text self.old };
 
@@ -88,7 +88,7 @@ pub trait Keeper: Drop {
     ///
     /// Errors: what its kind says.
     fn set_size(&mut self, size: u64) -> Result<(), Errno>
-        ensures steps { Does (resizing size) (kind self.old) (text self.old) (held self.old) result (text self.new) (held self.new) }
+        ensures steps { AnswersSo (resizing size) (kind self.old) (text self.old) (held self.old) result (text self.new) (held self.new) }
         ensures kind { kind self.new ≡ kind self.old }
         ensures text { text self.new ≡ text self.old };
 

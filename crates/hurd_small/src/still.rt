@@ -30,7 +30,7 @@ impl<S: Single> Lone<Still<S>> {
     }
 }
 
-#[tactic(auto, unfolding(crate::specs::Calls::Does, crate::specs::Calls::Tries, crate::specs::Calls::TakesNone, crate::specs::Calls::Readable))]
+#[tactic(auto, unfolding(crate::specs::Calls::AnswersSo, crate::specs::Calls::Tries, crate::specs::Calls::TakesNone, crate::specs::Calls::Readable))]
 impl<S: Single> Keeper for Still<S> {
     ghost kind = { λ s. S.kind s.single };
 

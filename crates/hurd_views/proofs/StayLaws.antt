@@ -10,7 +10,7 @@ use Rattle.hurd_machine.proofs.Views.{Agree, Agree-sym, HasGid-kept, HasUid-kept
 use Rattle.hurd_machine.specs.World.{boot_root, nodes_of}
 use Rattle.hurd_trans_iface.specs.Nodes.{Body, body_of}
 use Rattle.hurd_trans_iface.specs.Answers.{names_of}
-use Rattle.hurd_sight.specs.Found.{Follows, FoundAll, all_of, gathered, is_found, names_told, of_active, of_children, of_entry, of_node, of_nodes, of_parent, of_plain, of_right, of_server, of_target, of_targets, of_task, of_tasks, parent_in, root_of, root_served, searched_by, served_root, targets_of, with_why}
+use Rattle.hurd_sight.specs.Found.{AllThatFollows, FoundAll, all_of, gathered, is_found, names_told, of_active, of_children, of_entry, of_node, of_nodes, of_parent, of_plain, of_right, of_server, of_target, of_targets, of_task, of_tasks, parent_in, root_of, root_served, searched_by, served_root, targets_of, with_why}
 use Rattle.hurd_sight.specs.Looks.{Gathered, Looks}
 use Rattle.hurd_sight.specs.Parts.{HasFor, KnownByNode, SentByNode, is_for, known_at, maybe_named, named, no_names, node_for, of_found, rights_at, rights_held, with_right, with_rights}
 use Rattle.hurd_sight.specs.Reach.{Reaches, among, could_with}
@@ -40,7 +40,7 @@ then_same f g None same = refl
 then_same f g (Some n) same = same n refl
 
 -- what follows of some nodes, where each shows the same
-follows_same : (f g : Name → Entries) (start es : Entries) → ((n : Name) → is_found n es ≡ true → f n ≡ g n) → Follows f start es → Follows g start es
+follows_same : (f g : Name → Entries) (start es : Entries) → ((n : Name) → is_found n es ≡ true → f n ≡ g n) → AllThatFollows f start es → AllThatFollows g start es
 follows_same f g start es same it = record {
   all = it.all ∙ ap (λ (gs : Entries). gathered gs start) (shown es (λ e here. here));
   next = λ k. it.next k ∙ ap (λ (gs : Entries). take (suc k) (gathered gs start)) (shown (take k es) (λ e here. taken_among e k es here));
@@ -232,7 +232,7 @@ module _ (tasks : List TaskId) (v w : World) (x : Agree (among tasks) v w) where
           follows_same (of_plain (nodes_of v) ids) (of_plain (nodes_of w) ids) ((boot_root, why.Root) ∷ []) all.plain
           (λ n found. sym (plain_same x n (plain_seen n found) ids reach)) all.first;
       follows =
-          subst (λ (gs : Entries). Follows (of_node (nodes_of w) ids) (gathered gs all.plain) es) (sym tasks_shown)
+          subst (λ (gs : Entries). AllThatFollows (of_node (nodes_of w) ids) (gathered gs all.plain) es) (sym tasks_shown)
           (follows_same (of_node (nodes_of v) ids) (of_node (nodes_of w) ids) (gathered (of_tasks (nodes_of v) v.tasks tasks) all.plain) es
           (λ n found. sym (node_same x n (seen_of n found) ids reach)) all.follows);
     }

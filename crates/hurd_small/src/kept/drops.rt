@@ -52,7 +52,7 @@ fn count_in(digits: &[u8]) -> usize
     }
 }
 
-#[tactic(auto, unfolding(crate::specs::Calls::Does, crate::specs::Calls::Tries, crate::specs::Calls::TakesNone, crate::specs::Calls::Readable))]
+#[tactic(auto, unfolding(crate::specs::Calls::AnswersSo, crate::specs::Calls::Tries, crate::specs::Calls::TakesNone, crate::specs::Calls::Readable))]
 impl Keeper for Drops {
     ghost kind = { λ _. DripKind };
 

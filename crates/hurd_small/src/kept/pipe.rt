@@ -46,7 +46,7 @@ fn behind(bytes: &[u8], count: usize) -> ArrayVec<u8, 4096>
     rest
 }
 
-#[tactic(auto, unfolding(crate::specs::Calls::Does, crate::specs::Calls::Tries, crate::specs::Calls::TakesNone, crate::specs::Calls::Readable))]
+#[tactic(auto, unfolding(crate::specs::Calls::AnswersSo, crate::specs::Calls::Tries, crate::specs::Calls::TakesNone, crate::specs::Calls::Readable))]
 impl Keeper for Pipe {
     ghost kind = { λ _. FifoKind };
 

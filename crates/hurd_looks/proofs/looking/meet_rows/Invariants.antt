@@ -1,5 +1,5 @@
 use Rattle.std.proofs.Common.{true}
-use Rattle.hurd_looks.specs.Meets.{PairsFor}
+use Rattle.hurd_looks.specs.Pairings.{PairsFor}
 use Rattle.hurd_looks.specs.Renamed.{listed, named_row_renamed}
 use Rattle.hurd_looks.proofs.MeetLaws.{Before}
 use Rattle.hurd_looks.proofs.looking.meet_rows.Given as goal

@@ -1,5 +1,5 @@
 use Rattle.std.proofs.Common.{true}
-use Rattle.hurd_looks.specs.Meets.{PairsFor}
+use Rattle.hurd_looks.specs.Pairings.{PairsFor}
 use Rattle.hurd_looks.proofs.MeetLaws.{Before}
 use Rattle.hurd_looks.proofs.meet.meet_all.Given as goal
 

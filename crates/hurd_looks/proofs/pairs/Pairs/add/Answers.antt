@@ -3,7 +3,7 @@ use Rattle.indexmap.specs.IndexMap.{insert_entry}
 use Rattle.hurd_creds.proofs.StepLaws.{on_success}
 use Rattle.hurd_machine.proofs.Common.{Name, same_name}
 use Rattle.hurd_sight.specs.Parts.{is_in}
-use Rattle.hurd_looks.specs.Meets.{IsOneToOne, Pairing}
+use Rattle.hurd_looks.specs.Pairings.{IsOneToOne, Pairing}
 use Rattle.hurd_looks.proofs.PairLaws.{key_last, one_more, put_last, seconds}
 use Rattle.hurd_looks.proofs.pairs.Pairs.add.Goals as goal
 

@@ -1,6 +1,6 @@
 use Rattle.std.proofs.Common.{◌∙◌, ◌≤◌, ℕ, length, true≢false, refl, sym, ap, subst}
 use Rattle.hurd_sight.specs.Reach.{among}
-use Rattle.hurd_looks.specs.Meets.{Pairing}
+use Rattle.hurd_looks.specs.Pairings.{Pairing}
 use Rattle.hurd_looks.proofs.PairLaws.{KeepsAt, keep_at}
 use Rattle.hurd_looks.proofs.LookLaws.{keep_all, one_further}
 use Rattle.hurd_looks.proofs.pairs.Pairs.keep_own.Goals as goal

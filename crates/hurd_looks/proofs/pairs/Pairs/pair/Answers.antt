@@ -5,7 +5,7 @@ use Rattle.std.specs.Option.{option_copied}
 use Rattle.std.specs.Cmp.{unsigned_Decides}
 use Rattle.hurd_machine.proofs.Common.{same_name}
 use Rattle.hurd_sight.specs.Parts.{is_in}
-use Rattle.hurd_looks.specs.Meets.{Pairing}
+use Rattle.hurd_looks.specs.Pairings.{Pairing}
 use Rattle.hurd_looks.proofs.PairLaws.{is_paired, other_maker, seconds, was_paired, was_taken}
 use Rattle.hurd_looks.proofs.pairs.Pairs.pair.Goals as goal
 

@@ -21,9 +21,9 @@ unfoldable pub PairsFor : ((Name → Name) → Type 0) → Pairing → Bool → 
 PairsFor P old true new = (f : OtherNames) → RaisesCounts f → Agrees f new ↔ (Agrees f old × P f.to)
 PairsFor P old false new = (f : OtherNames) → RaisesCounts f → Agrees f old → P f.to → ⊥
 
--- two things met: other names make the one of the other
-abbrev pub Meets : {A : Type 0} → ((Name → Name) → A → A) → A → A → Pairing → Bool → Pairing → Type 0
-Meets renamed a b old met new = PairsFor (λ f. renamed f a ≡ b) old met new
+-- two things pair up: other names make the one of the other
+abbrev pub PairUp : {A : Type 0} → ((Name → Name) → A → A) → A → A → Pairing → Bool → Pairing → Type 0
+PairUp renamed a b old met new = PairsFor (λ f. renamed f a ≡ b) old met new
 
 -- the pairs begin with the boot root, which keeps its name
 abbrev pub FromBoot : Pairing → Type 0
