@@ -1,7 +1,7 @@
 -- What settles was used by nobody: each node that a right is to use has the server that it had.
 use Rattle.std.proofs.Common.{◌≡◌, ◌∙◌, ℕ, zero, suc, Bool, true, false, cond, List, Option, Some, None, refl, sym, ap, inl, inr, slice_get, is_some}
 use Rattle.std.proofs.lemmas.Bool.{or_left}
-use Rattle.hurd_machine.proofs.Common.{Control, Io, IsAmong, Name, NodeState, Outside, Right, ServerInfo, Start, Task, count_rights, get, home_in, is_home, node_stays, outside_by, rights_of, uses_server}
+use Rattle.hurd_machine.proofs.Common.{Control, Io, IsAmong, Name, NodeState, Outside, Right, ServerInfo, Start, Task, count_rights, get, home_in, is_one, node_stays, outside_by, rights_of, uses_server}
 use Rattle.hurd_nodes.specs.Settle.{AreServed, server_stays, named, sweep, sweeps, size, settle}
 use Rattle.hurd_nodes.proofs.PartLaws.{cond_some}
 use Rattle.hurd_nodes.proofs.Sites.{home-kept}
@@ -58,6 +58,6 @@ pub settle_users : (h : NodeState) (ts : List Task) → AreServed h → (s : Nam
 settle_users h ts served s = count_alike (uses_server (settle (outside_by ts) h).sites s) (uses_server h.sites s) ts on
   where
     on : (t : ℕ) (x : Task) (r : Right) → slice_get ts t ≡ Some x → IsAmong r (rights_of x) → uses_server (settle (outside_by ts) h).sites s r ≡ uses_server h.sites s r
-    on t x (Io r) at i = ap (is_home s) (settle_home (outside_by ts) h served r.node (named_by_right ts t x (Io r) r.node at i (inl refl)))
+    on t x (Io r) at i = ap (is_one s) (settle_home (outside_by ts) h served r.node (named_by_right ts t x (Io r) r.node at i (inl refl)))
     on t x (Control q) at i = refl
     on t x (Start m) at i = refl

@@ -3,9 +3,9 @@ use Rattle.std.specs.Prelude.{◌≡◌, ℕ, ◌-◌, if◌then◌else◌, List
 use Rattle.hurd_creds.specs.declared.name.Name.{Name}
 use Rattle.hurd_creds.specs.declared.errno.Errno.{Errno}
 use Rattle.hurd_creds.specs.NameMaps.{NameMap}
-use Rattle.hurd_creds.specs.Names.{same_name}
+use Rattle.hurd_creds.specs.Names.{is_one, same_name}
 use Rattle.hurd_nodes.specs.declared.seat.Site.{Site}
-use Rattle.hurd_nodes.specs.Held.{home_in, is_home}
+use Rattle.hurd_nodes.specs.Held.{home_in}
 use Rattle.hurd_ports.specs.declared.table.Right.{Right}
 use Rattle.hurd_ports.specs.declared.table.Right.TheVariants.{Io, Control, Start}
 use Rattle.hurd_creds.specs.Counts.{counted}
@@ -31,4 +31,4 @@ AreUsers es sites ts = (s : Name) → counted es s ≡ count_rights (uses_server
 -- how many users server s has, which had k, once server p has come: p has those of its root, the one that left for it has none, and the one that
 -- had the root before, if any, has those of the root no more
 abbrev pub reseated : Option Name → ℕ → Option Name → Name → Name → ℕ → ℕ
-reseated old uses instead p s k = if same_name s p then uses else if is_home s instead then 0 else k - if_so (is_home s old) uses
+reseated old uses instead p s k = if same_name s p then uses else if is_one s instead then 0 else k - if_so (is_one s old) uses

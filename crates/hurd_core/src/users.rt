@@ -5,9 +5,10 @@
 ghost use Rattle.std.specs.Prelude.{◌≡◌, ◌≤◌, ◌<◌, ◌+◌, Bool, if◌then◌else◌, IfSome};
 ghost use Rattle.indexmap.specs.IndexMap.{spare};
 ghost use Rattle.hurd_creds.specs.declared.name.Name.{Name};
-ghost use Rattle.hurd_nodes.specs.Held.{home_in, is_home};
+ghost use Rattle.hurd_nodes.specs.Held.{home_in};
 ghost use Rattle.hurd_creds.specs.Weights.{if_so};
 ghost use Rattle.hurd_creds.specs.Counts.{counted};
+ghost use Rattle.hurd_creds.specs.Names.{is_one};
 ghost use Rattle.hurd_ports.specs.Counts.{most_counted};
 ghost use Rattle.hurd_ports.specs.Tables.{count_rights, uses_node};
 ghost use Rattle.hurd_ports.specs.declared.table.Right.{Right};
@@ -51,7 +52,7 @@ pub(crate) fn home_used<S: Server>(nodes: &Nodes<S>, right: &Right) -> Option<Se
 pub(crate) fn add(users: &mut Users, server: Option<ServerName>, more: u128)
     requires room { 0 < spare users.old }
     requires fits { IfSome server (λ s. counted users.old.entries s + more ≤ u128.MAX) }
-    ensures { (s : Name) → counted users.new.entries s ≡ counted users.old.entries s + if_so (is_home s server) more }
+    ensures { (s : Name) → counted users.new.entries s ≡ counted users.old.entries s + if_so (is_one s server) more }
 {
     if let Some(server) = server {
         if more > 0 {
@@ -63,8 +64,8 @@ pub(crate) fn add(users: &mut Users, server: Option<ServerName>, more: u128)
 /// So many users of a server less, if there is a server.
 #[inline(always)]
 pub(crate) fn subtract(users: &mut Users, server: Option<ServerName>, less: u128)
-    requires { (s : Name) → if_so (is_home s server) less ≤ counted users.old.entries s }
-    ensures less { (s : Name) → counted users.new.entries s + if_so (is_home s server) less ≡ counted users.old.entries s }
+    requires { (s : Name) → if_so (is_one s server) less ≤ counted users.old.entries s }
+    ensures less { (s : Name) → counted users.new.entries s + if_so (is_one s server) less ≡ counted users.old.entries s }
     ensures room { spare users.old ≤ spare users.new }
 {
     if let Some(server) = server {
@@ -74,7 +75,7 @@ pub(crate) fn subtract(users: &mut Users, server: Option<ServerName>, less: u128
 
 /// No users of a server any more, if there is a server.
 pub(crate) fn forget(users: &mut Users, server: Option<ServerName>)
-    ensures none { (s : Name) → counted users.new.entries s ≡ (if is_home s server then 0 else counted users.old.entries s) }
+    ensures none { (s : Name) → counted users.new.entries s ≡ (if is_one s server then 0 else counted users.old.entries s) }
     ensures room { spare users.old ≤ spare users.new }
 {
     if let Some(server) = server {
@@ -108,9 +109,9 @@ impl NodeUse {
 /// Counts the users of a node as they are now, in the place of those that were. There is room for one server more.
 pub(crate) fn rehouse(users: &mut Users, before: NodeUse, now: NodeUse)
     requires room { 0 < spare users.old }
-    requires counted { (s : Name) → if_so (is_home s before.server) before.uses ≤ counted users.old.entries s }
+    requires counted { (s : Name) → if_so (is_one s before.server) before.uses ≤ counted users.old.entries s }
     requires fits { (s : Name) → counted users.old.entries s + now.uses ≤ u128.MAX }
-    ensures { (s : Name) → counted users.new.entries s + if_so (is_home s before.server) before.uses ≡ counted users.old.entries s + if_so (is_home s now.server) now.uses }
+    ensures { (s : Name) → counted users.new.entries s + if_so (is_one s before.server) before.uses ≡ counted users.old.entries s + if_so (is_one s now.server) now.uses }
 {
     subtract(users, before.server, before.uses);
     add(users, now.server, now.uses);
@@ -125,7 +126,7 @@ pub(crate) fn reseat(
     server: ServerName,
 )
     requires room { 0 < spare users.old }
-    requires counted { (s : Name) → if_so (is_home s root.server) root.uses ≤ counted users.old.entries s }
+    requires counted { (s : Name) → if_so (is_one s root.server) root.uses ≤ counted users.old.entries s }
     ensures { (s : Name) → counted users.new.entries s ≡ reseated root.server root.uses instead server s (counted users.old.entries s) }
 {
     subtract(users, root.server, root.uses);

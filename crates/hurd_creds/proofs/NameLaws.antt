@@ -2,7 +2,7 @@
 use Rattle.std.proofs.Common.{◌≡◌, ◌≢◌, ◌⊎◌, inl, inr, ◌&&◌, ◌==◌, ℕ, Bool, true, false, cond, refl, ap, sym, subst, ◌∙◌, true≢false}
 use Rattle.std.specs.Prelude.{Option, Some, None}
 use Rattle.std.specs.Option.{option_map}
-use Rattle.std.specs.Cmp.{IsTotalOrder, Equal-is, tied_itself, unsigned_tied}
+use Rattle.std.specs.Cmp.{IsEquivalence, IsTotalOrder, Equal-is, tied_itself, unsigned_tied}
 use Rattle.std.specs.Ordering.{nat_cmp, ordering_then, is_eq, eq_by_cmp}
 use Rattle.std.specs.declared.cmp.Ordering.{Ordering}
 use Rattle.std.specs.declared.cmp.Ordering.TheVariants.{Less, Equal, Greater}
@@ -68,6 +68,16 @@ same_or_apart a b = go (same_name a b) refl
     go : (r : Bool) → same_name a b ≡ r → (a ≡ b) ⊎ (a ≢ b)
     go true e = inl (equal_if_same a b e)
     go false e = inr (apart_if_not_same a b e)
+
+pub name_turned : (a b : Name) → same_name a b ≡ same_name b a
+name_turned a b = elim (same_or_apart a b) [
+  | inl e ↦ rw e refl
+  | inr apart ↦ same_name-apart a b apart ∙ sym (same_name-apart b a (λ e. apart (sym e)))
+]
+
+-- a test for the same name tells names as well as any
+pub names-alike : IsEquivalence same_name
+names-alike = record { refl = same_name-itself; symm = name_turned; congr = λ a b c is. ap (λ (n : Name). same_name n c) (equal_if_same a b is) }
 
 -- two maps that answer alike are equal
 pub same_map_by : {X : Type 0} (m n : NameMap X) → ((q : Name) → get m q ≡ get n q) → m ≡ n

@@ -1,5 +1,5 @@
 -- Names and their order.
-use Rattle.std.specs.Prelude.{ℕ, ◌==◌, ◌&&◌, ◌*◌, Bool, bit_xor, refl}
+use Rattle.std.specs.Prelude.{ℕ, ◌==◌, ◌&&◌, ◌*◌, Bool, Option, None, Some, false, bit_xor, refl}
 use Rattle.std.specs.Ordering.{nat_cmp, ordering_then}
 use Rattle.std.specs.Coded.{Coded, code_by, coded×, coded_ℕ}
 use Rattle.std.specs.declared.cmp.Ordering.{Ordering}
@@ -20,6 +20,11 @@ coded_name = code_by (ℕ × ℕ) (coded× coded_ℕ coded_ℕ) (λ n. (n.task.0
 -- whether two names are one
 abbrev pub same_name : Name → Name → Bool
 same_name a b = (a.task.0 == b.task.0) && (a.count == b.count)
+
+-- whether a name that may be given is this one
+abbrev pub is_one : Name → Option Name → Bool
+is_one n None = false
+is_one n (Some m) = same_name n m
 
 -- both numbers of a name as one, by which it is found
 abbrev pub number_of_name : Name → ℕ

@@ -1,5 +1,5 @@
 //! How often names are counted.
-ghost use Rattle.std.specs.Prelude.{◌≡◌, ◌≤◌, ◌<◌, ◌+◌, None};
+ghost use Rattle.std.specs.Prelude.{◌≡◌, ◌≤◌, ◌<◌, ◌+◌, if◌then◌else◌, Some, None, nat_lt};
 ghost use Rattle.std.specs.Map.{lookup};
 ghost use Rattle.indexmap.specs.IndexMap.{spare};
 ghost use Rattle.hurd_creds.specs.Names.{same_name};
@@ -35,18 +35,24 @@ pub fn add(counts: &mut Counts, name: Name, more: u128)
     *counts.entry(name).unwrap().or_insert(0) += more;
 }
 
-/// Counts the name so many times less, and keeps nothing of it if it is counted no more. Takes no room.
+/// Counts the name so many times less, and keeps nothing of it if it is counted no more; then it answers it. One search. Takes no room.
 #[inline(always)]
-pub fn subtract(counts: &mut Counts, name: Name, less: u128)
+pub fn subtract(counts: &mut Counts, name: Name, less: u128) -> Option<Name>
     requires { less ≤ counted counts.old.entries name }
     ensures less { (n : Name) → counted counts.new.entries n + if_so (same_name n name) less ≡ counted counts.old.entries n }
-    ensures gone { counted counts.new.entries name ≡ 0 → lookup (same_name name) counts.new.entries ≡ None }
+    ensures gone { result ≡ (if nat_lt 0 (counted counts.new.entries name) then None else Some name) }
+    ensures forgotten { counted counts.new.entries name ≡ 0 → lookup (same_name name) counts.new.entries ≡ None }
     ensures room { spare counts.old ≤ spare counts.new }
 {
-    match counts.get_mut(&name) {
-        Some(count) if *count > less => *count -= less,
-        _ => {
-            counts.swap_remove(&name);
-        }
+    let Some((index, _, count)) = counts.get_full(&name) else {
+        return Some(name);
+    };
+    if *count > less {
+        let (_, count) = counts.pair_mut(index);
+        *count -= less;
+        None
+    } else {
+        counts.swap_remove_index(index);
+        Some(name)
     }
 }

@@ -32,7 +32,7 @@ pub use errno::Errno;
 pub use ids::Ids;
 pub use limits::{MOST_NAME, MOST_PATH, MOST_READ, MOST_SCRIPT, MOST_SIZE, MOST_TASKS};
 pub use mode::Mode;
-pub use name::{Name, NodeName, OpenName, ServerName, TaskId};
+pub use name::{Name, NodeName, OpenName, ServerName, TaskId, is_one};
 pub use octal::octal_number;
 pub use open_flags::OpenFlags;
 pub use same::{Same, all_same};

@@ -6,7 +6,7 @@ use Rattle.hurd_machine.proofs.Common.{AnEmpty, AttrOf, Body, BodyOf, Change, Co
 use Rattle.std.proofs.lemmas.Bool.{and_parts, not-true}
 use Rattle.hurd_creds.proofs.NameLaws.{same_or_apart, apart_if_not_same, same_name-apart, edit_apart}
 use Rattle.hurd_trans_iface.specs.Nodes.{Entry}
-use Rattle.hurd_trans_iface.specs.Answers.{is_one}
+use Rattle.hurd_creds.specs.Names.{is_one}
 use Rattle.hurd_trans_iface.proofs.Goods.{good}
 use Rattle.hurd_machine.specs.declared.call.Reply.TheVariants.{Done}
 use Rattle.hurd_nodes.specs.Shown.{rename_by, rename_edits_at}

@@ -4,9 +4,9 @@ use Rattle.hurd_creds.specs.declared.name.Name.{Name}
 use Rattle.hurd_creds.specs.declared.attrs.Attrs.{Attrs}
 use Rattle.hurd_creds.specs.declared.errno.Errno.{Errno}
 use Rattle.hurd_creds.specs.declared.errno.Errno.TheVariants.{EACCES, EBUSY, EDIED, EINVAL, EISDIR, ENOENT, ENOTDIR, ENOTEMPTY, EROFS, EXDEV}
-use Rattle.hurd_creds.specs.Names.{same_name}
+use Rattle.hurd_creds.specs.Names.{is_one, same_name}
 use Rattle.hurd_trans_iface.specs.Nodes.{Header, is_dir}
-use Rattle.hurd_trans_iface.specs.Answers.{entry_of, is_one, move_edits}
+use Rattle.hurd_trans_iface.specs.Answers.{entry_of, move_edits}
 use Rattle.hurd_nodes.specs.Shown.{are_kin, tree_by}
 use Rattle.hurd_machine.specs.declared.call.Reply.TheVariants.{Done}
 use Rattle.hurd_machine.specs.World.{World, header_at, body_at, words_at, home_at, active_at, info_at, is_removed}

@@ -1,6 +1,6 @@
 //! Entries that go to another directory, or get another name.
 ghost use Rattle.std.specs.Prelude.{◌≡◌};
-ghost use Rattle.hurd_trans_iface.specs.Answers.{is_one};
+ghost use Rattle.hurd_creds.specs.Names.{is_one};
 ghost use Rattle.hurd_nodes.specs.Shown.{header_in};
 ghost use Rattle.hurd_machine.specs.Plan.{Planned};
 ghost use Rattle.hurd_machine.specs.declared.call.Reply.TheVariants as reply;
@@ -10,7 +10,7 @@ ghost use Rattle.hurd_dirs.specs.Rename.{is_inside, trees_ask, leaves_asks, leav
 
 use crate::entry::{may_change, may_take, name_asked};
 use hurd_core::{Core, PortNode};
-use hurd_creds::{Attrs, Errno, NodeName, TaskId};
+use hurd_creds::{Attrs, Errno, NodeName, TaskId, is_one};
 use hurd_trans_iface::{Server, is_dir};
 use std::alloc::Global;
 
@@ -196,16 +196,6 @@ fn rename_asked<S: Server>(
         node,
         old,
     })
-}
-
-/// Whether the node itself stands under the new name.
-fn is_one(node: NodeName, old: Option<NodeName>) -> bool
-    ensures { result ≡ is_one node old }
-{
-    match old {
-        Some(old) => node == old,
-        None => false,
-    }
 }
 
 /// Takes the first entry of a name out of the directory of a port, and puts it last into the directory of another, or the

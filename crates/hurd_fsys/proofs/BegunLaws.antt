@@ -1,6 +1,6 @@
 -- A server that begins: its root's shape, size, and how it hangs, and how it comes.
 use Rattle.std.proofs.Common.{Option, Some, None, not, [], ◌∷◌, ap, ◌≡◌, ◌≢◌, ◌∙◌, ℕ, Bool, true, false, true≢false, if◌then◌else◌, List, refl, sym}
-use Rattle.hurd_machine.proofs.Common.{Attach, AttrOf, BodyOf, Dir, DropServer, EOVERFLOW, ESRCH, EmptyOf, EndsOf, Header, IsShaped, Kind, Meaning, Mode, Name, Node, OptionsOf, Part, ServerInfo, Task, TaskOf, TextOf, TotalOf, World, active_at, begun_info, begun_root, boot_name, fresh, given, header_at, home_at, is_dir, is_home, is_other, is_plain, is_tree, on, root_body, task_at}
+use Rattle.hurd_machine.proofs.Common.{Attach, AttrOf, BodyOf, Dir, DropServer, EOVERFLOW, ESRCH, EmptyOf, EndsOf, Header, IsShaped, Kind, Meaning, Mode, Name, Node, OptionsOf, Part, ServerInfo, Task, TaskOf, TextOf, TotalOf, World, active_at, begun_info, begun_root, boot_name, fresh, given, header_at, home_at, is_dir, is_one, is_other, is_plain, is_tree, on, root_body, task_at}
 use Rattle.hurd_trans_iface.specs.declared.root.Root.{Root}
 use Rattle.hurd_trans_iface.specs.Meaning.{behaviour_of, root_of}
 use Rattle.hurd_trans_iface.proofs.BodyLaws.{begun_has, begun_holds}
@@ -82,8 +82,8 @@ module _ (w : World) (t : ℕ) (n : Name) (h : Header) (there : (k : Header) × 
     other q e = go (home_at w n) refl
       where
         go : (o : Option Name) → home_at w n ≡ o → is_other q w.sites n ≡ true
-        go None h = ap (λ z. not (is_home q z)) h
-        go (Some z) h = ap (λ z. not (is_home q z)) h ∙ ap not (same_name-apart q z (λ same. st.coherent.seating.elsewhere n q e (h ∙ ap Some (sym same))))
+        go None h = ap (λ z. not (is_one q z)) h
+        go (Some z) h = ap (λ z. not (is_one q z)) h ∙ ap not (same_name-apart q z (λ same. st.coherent.seating.elsewhere n q e (h ∙ ap Some (sym same))))
 
     not_boot : (q : Name) → active_at w n ≡ Some q → q ≢ boot_name
     not_boot q e = (st.coherent.seating.seated n q e).0

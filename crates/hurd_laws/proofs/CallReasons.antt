@@ -6,8 +6,9 @@ use Rattle.hurd_creds.specs.Access.{owns}
 use Rattle.hurd_creds.specs.declared.mode.Mode.{Mode}
 use Rattle.hurd_creds.specs.declared.open_flags.OpenFlags.{OpenFlags}
 use Rattle.hurd_creds.specs.declared.trans_flags.GoawayFlags.{GoawayFlags}
+use Rattle.hurd_creds.specs.Names.{is_one}
 use Rattle.hurd_trans_iface.specs.Nodes.{with_passive}
-use Rattle.hurd_trans_iface.specs.Answers.{entering, is_one}
+use Rattle.hurd_trans_iface.specs.Answers.{entering}
 use Rattle.hurd_trans_iface.specs.Behaviour.{Did, edit_bytes, edit_size, edits_of}
 use Rattle.hurd_trans_iface.specs.Meaning.{keeps_tree, size_of}
 use Rattle.hurd_nodes.specs.Shown.{own_nodes, sizing, sizing_unless, takes_options}

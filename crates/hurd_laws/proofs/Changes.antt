@@ -3,7 +3,7 @@ use Rattle.std.proofs.Common.{◌≡◌, ◌++◌, not, ℕ, Bool, true, false, 
 use Rattle.std.specs.FinMap as fin
 use Rattle.std.specs.Option.{option_map}
 use Rattle.hurd_creds.specs.NameMaps.{map_values}
-use Rattle.hurd_machine.proofs.Common.{Attach, Body, Change, DropServer, EditBody, EditHeader, EditOpen, EditTask, Header, LetGo, MakeNode, MakeOpen, Name, NameMap, Node, NodeMap, NodeState, Opened, Right, Send, ServerInfo, SetText, Settle, Site, Task, Unseat, World, apply, apply_all, attached, edit, is_held, is_home, is_other, new_site, out_server, vacated, with_active, with_text}
+use Rattle.hurd_machine.proofs.Common.{Attach, Body, Change, DropServer, EditBody, EditHeader, EditOpen, EditTask, Header, LetGo, MakeNode, MakeOpen, Name, NameMap, Node, NodeMap, NodeState, Opened, Right, Send, ServerInfo, SetText, Settle, Site, Task, Unseat, World, apply, apply_all, attached, edit, is_held, is_one, is_other, new_site, out_server, vacated, with_active, with_text}
 use Rattle.hurd_trans_iface.specs.Nodes.{with_body, with_header}
 use Rattle.hurd_ports.specs.Steps.{named, with_sent}
 use Rattle.hurd_ports.specs.Tables.{OpenMap}
@@ -12,7 +12,7 @@ use Rattle.hurd_machine.specs.World.{nodes_of}
 use Rattle.hurd_machine.specs.Renamed.{OtherNames, body_renamed, header_renamed, info_renamed, map_renamed, node_renamed, open_renamed, renamed, right_renamed, site_renamed, task_renamed}
 use Rattle.hurd_machine.proofs.Keeping.{apply_all-append}
 use Rattle.hurd_machine.proofs.RenamedMaps.{edit-renamed, insert-renamed, remove-renamed, retain_keys-renamed}
-use Rattle.hurd_machine.proofs.RenamedNodes.{is_home-renamed, is_home_in-renamed}
+use Rattle.hurd_machine.proofs.RenamedNodes.{is_one-renamed, is_home_in-renamed}
 use Rattle.hurd_machine.proofs.RenamedTasks.{is_held-renamed}
 use Rattle.hurd_laws.proofs.MapChanges.{map_values-renamed}
 use Rattle.hurd_laws.proofs.Settled.{same_state, settled-renamed, state_renamed}
@@ -114,7 +114,7 @@ module _ (f : OtherNames) where
       go false = refl
 
   vacated-renamed : (s : Name) (r : Site) → vacated (f.to s) (site_renamed f.to r) ≡ site_renamed f.to (vacated s r)
-  vacated-renamed s r = ap (λ (o : Option Name). record (site_renamed f.to r) { active = o }) (vacated_by (is_home s r.active) (is_home (f.to s) (option_map f.to r.active)) (is_home-renamed f s r.active) r.active)
+  vacated-renamed s r = ap (λ (o : Option Name). record (site_renamed f.to r) { active = o }) (vacated_by (is_one s r.active) (is_one (f.to s) (option_map f.to r.active)) (is_one-renamed f s r.active) r.active)
 
   module _ (s : Name) (h : NodeState) where
     other_alike : (n : Name) → is_other (f.to s) (state_renamed f h).sites (f.to n) ≡ is_other s h.sites n

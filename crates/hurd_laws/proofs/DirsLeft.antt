@@ -4,10 +4,10 @@ use Rattle.std.specs.Option.{option_map}
 use Rattle.std.specs.Str.{bytes_eq}
 use Rattle.hurd_machine.proofs.Common.{Body, Change, Content, Header, Listing, Name, World, is_dir}
 use Rattle.hurd_trans_iface.specs.Nodes.{Entry, less_entry, linked, moved_to, unlinked, with_entry, without_entry}
-use Rattle.hurd_trans_iface.specs.Answers.{is_one}
+use Rattle.hurd_creds.specs.Names.{is_one}
 use Rattle.hurd_machine.specs.Renamed.{OtherNames, body_renamed, entry_renamed, header_renamed, renamed}
 use Rattle.hurd_machine.proofs.RenamedAsks.{links_at-renamed}
-use Rattle.hurd_machine.proofs.RenamedMaps.{same_name-renamed}
+use Rattle.hurd_machine.proofs.RenamedNodes.{is_one-renamed}
 use Rattle.hurd_dirs.specs.Link.{plan_link}
 use Rattle.hurd_dirs.specs.Remove.{Entered, plan_rmdir, plan_unlink, removing}
 use Rattle.hurd_dirs.specs.Rename.{moves, plan_rename, renames}
@@ -61,14 +61,10 @@ module _ (f : OtherNames) where
       (cons f (edits_header f m unlinked unlinked (unlinked-renamed f)) (goes-left name new r))
 
   renames-left : (name new : List ℕ) (r : Move) (o : Option Name) → Alike f (renames name new r o) (renames name new (move_renamed f r) (option_map f.to o))
-  renames-left name new r o = subst (λ (b : Bool). Alike f (renames name new r o) (if b then [] else there)) (sym (is_one-renamed o)) (go (is_one r.node o))
+  renames-left name new r o = subst (λ (b : Bool). Alike f (renames name new r o) (if b then [] else there)) (sym (is_one-renamed f r.node o)) (go (is_one r.node o))
     where
       there : List Change
       there = moves name new (move_renamed f r) (option_map f.to o)
-
-      is_one-renamed : (o : Option Name) → is_one (f.to r.node) (option_map f.to o) ≡ is_one r.node o
-      is_one-renamed None = refl
-      is_one-renamed (Some m) = same_name-renamed f r.node m
 
       go : (b : Bool) → Alike f (if b then [] else moves name new r o) (if b then [] else there)
       go true = none f

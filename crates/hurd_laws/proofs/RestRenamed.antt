@@ -4,12 +4,12 @@ use Rattle.std.specs.Option.{option_map}
 use Rattle.hurd_trans_iface.proofs.Goods.{nameless}
 use Rattle.hurd_nodes.specs.Settle.{any_in, stays_by, stays_with}
 use Rattle.hurd_nodes.proofs.PartLaws.{any_in-found, any_in-here, same_bool}
-use Rattle.hurd_machine.proofs.Common.{AreFilled, AtRest, IsFilled, Name, NameMap, Node, Opened, ServerInfo, Site, World, get, home_at, info_at, is_entered_at, is_held, is_home, is_listed, namings, same_name, server_at, server_of, stays}
+use Rattle.hurd_machine.proofs.Common.{AreFilled, AtRest, IsFilled, Name, NameMap, Node, Opened, ServerInfo, Site, World, get, home_at, info_at, is_entered_at, is_held, is_one, is_listed, namings, same_name, server_at, server_of, stays}
 use Rattle.hurd_machine.specs.Change as change
 use Rattle.hurd_machine.specs.World.{nodes_of}
 use Rattle.hurd_machine.specs.Renamed.{OtherNames, info_renamed, map_renamed, node_renamed, open_renamed, renamed, site_renamed}
 use Rattle.hurd_machine.proofs.RenamedMaps.{get-renamed, same_name-renamed}
-use Rattle.hurd_machine.proofs.RenamedNodes.{boot_name-renamed, home_at-renamed, is_entered_at-renamed, is_home-renamed, is_listed-renamed, node_at-renamed}
+use Rattle.hurd_machine.proofs.RenamedNodes.{boot_name-renamed, home_at-renamed, is_entered_at-renamed, is_one-renamed, is_listed-renamed, node_at-renamed}
 use Rattle.hurd_machine.proofs.RenamedServers.{info_at-renamed, server_at-renamed}
 use Rattle.hurd_machine.proofs.RenamedTasks.{is_controlled-renamed, is_held-renamed, is_named-renamed}
 use Rattle.hurd_laws.proofs.FoundRenamed.{of_found, of_mapped}
@@ -44,7 +44,7 @@ module _ (f : OtherNames) where
 
     pub server_stays-renamed : (s : Name) → change.server_stays other (f.to s) ≡ change.server_stays w s
     server_stays-renamed s = ap₂ ◌||◌ (boot_name-renamed f s) (ap₂ ◌||◌ (is_controlled-renamed f w s) (ap₂ ◌||◌
-        (any_in-renamed (site_renamed f.to) (λ (n : Name) (r : Site). is_home s r.active) (λ (n : Name) (r : Site). is_home (f.to s) r.active) (λ n r. is_home-renamed f s r.active) w.sites)
+        (any_in-renamed (site_renamed f.to) (λ (n : Name) (r : Site). is_one s r.active) (λ (n : Name) (r : Site). is_one (f.to s) r.active) (λ n r. is_one-renamed f s r.active) w.sites)
         (any_in-renamed (site_renamed f.to) (λ (n : Name) (r : Site). same_name s r.home && (namings w).held n) (λ (n : Name) (r : Site). same_name (f.to s) r.home && (namings other).held n)
         (λ n r. ap₂ ◌&&◌ (same_name-renamed f s r.home) (named-renamed n)) w.sites)))
 

@@ -14,7 +14,7 @@ pub use Rattle.hurd_creds.specs.Limits.{most_read}
 pub use Rattle.hurd_creds.specs.Memory.{Meets, Steps, is_no_memory}
 pub use Rattle.hurd_creds.specs.NameMaps.{NameMap}
 unfoldable pub use Rattle.hurd_creds.specs.NameMaps.{edit}
-pub use Rattle.hurd_creds.specs.Names.{name_of, same_name}
+pub use Rattle.hurd_creds.specs.Names.{is_one, name_of, same_name}
 unfoldable pub use Rattle.hurd_creds.specs.Names.{name_cmp}
 pub use Rattle.hurd_creds.specs.TransBits.{FORCE, SET, asks_goaway, asks_trans}
 pub use Rattle.hurd_creds.specs.declared.attrs.Attrs.{Attrs}
@@ -28,7 +28,7 @@ pub use Rattle.hurd_creds.specs.declared.mode.Mode.{Mode}
 pub use Rattle.hurd_creds.specs.declared.name.Name.{Name}
 pub use Rattle.hurd_creds.specs.declared.name.TaskId.{TaskId}
 pub use Rattle.hurd_creds.specs.declared.open_flags.OpenFlags.{OpenFlags}
-pub use Rattle.hurd_trans_iface.specs.Answers.{edits_if, entry_in, entry_of, header_after, is_made, is_one, is_plain, is_taken, is_tree, link_in, made_node, most_links, move_edits, named_by, names_of, rename_edits, unlink_edits}
+pub use Rattle.hurd_trans_iface.specs.Answers.{edits_if, entry_in, entry_of, header_after, is_made, is_plain, is_taken, is_tree, link_in, made_node, most_links, move_edits, named_by, names_of, rename_edits, unlink_edits}
 pub use Rattle.hurd_trans_iface.specs.Behaviour.{Did, Question, edit_bytes, edit_size, edits_of, fitting, resizing, writing}
 pub use Rattle.hurd_trans_iface.specs.Good.{GoodBehaviour}
 pub use Rattle.hurd_trans_iface.specs.Texts.{reads_text}
@@ -48,7 +48,7 @@ pub use Rattle.hurd_ports.specs.declared.table.Opened.{Opened}
 pub use Rattle.hurd_ports.specs.declared.table.PendingStart.{PendingStart}
 pub use Rattle.hurd_ports.specs.declared.table.Right.{Right}
 pub use Rattle.hurd_ports.specs.declared.table.Right.TheVariants.{Control, Io, Start}
-pub use Rattle.hurd_nodes.specs.Held.{active_in, home_in, is_home, new_site}
+pub use Rattle.hurd_nodes.specs.Held.{active_in, home_in, new_site}
 pub use Rattle.hurd_nodes.specs.Needs.{counts_by}
 pub use Rattle.hurd_nodes.specs.Settle.{Outside, node_stays, stays_by, stays_with}
 pub use Rattle.hurd_nodes.specs.Shown.{NodeState, ServerInfo, are_kin, asked_of, attached, begun_info, begun_root, boot_mode, boot_name, booted, can_make, edit_by, edit_header_at, info_in, is_other, is_root_at, is_root_of, limit_by, link_by, make_at, out_server, own_edits, own_nodes, server_of, shown, sizing, sizing_unless, state_of, takes_options, tree_by, vacated, with_active, with_edits, with_home, with_made, with_text, without_old, without_sites}

@@ -2,7 +2,7 @@
 use Rattle.std.proofs.Common.{◌≡◌, ◌≢◌, ◌⊎◌, ℕ, Bool, false, List, [], ◌∷◌, ◌++◌, Option, Some, None, length, sym, refl, ◌∙◌, ap, ap₂, subst, inl, inr, arith, true, true≢false}
 use Rattle.std.specs.Option.{option_map}
 use Rattle.hurd_nodes.proofs.Sites.{home-apart}
-use Rattle.hurd_machine.proofs.Common.{ABody, ATask, AUsers, AnEmpty, AnOpen, AnOptions, Attach, AttrOf, Below, BodyOf, Change, Coherent, Control, DropServer, EditBody, EditHeader, EditOpen, EditTask, EmptyOf, Io, IsGone, LetGo, MakeNode, MakeOpen, Name, NameMap, OpenOf, Opened, OptionsOf, Part, Right, Sees, Send, ServerInfo, SetText, Settle, Sound, Start, Task, TaskOf, TextOf, AText, faced, Unseat, UsersOf, World, apply, apply_all, body_at, count_list, counts_at, counts_by, edit, ends_at, ends_of, header_at, holders, home_at, info_in, is_empty_dir, is_on, names_open, new_site, one_if, open_at, part, rights_of, server_at, site_at, task_at, users, with_body, with_header, with_sent, with_text, EndsOf, AnEnds, ATotal, TotalOf, Header, Node, counts_for, total_if, total_at, tree_by, info_at, is_home, get, insert, Body}
+use Rattle.hurd_machine.proofs.Common.{ABody, ATask, AUsers, AnEmpty, AnOpen, AnOptions, Attach, AttrOf, Below, BodyOf, Change, Coherent, DropServer, EditBody, EditHeader, EditOpen, EditTask, EmptyOf, Io, IsGone, LetGo, MakeNode, MakeOpen, Name, NameMap, OpenOf, Opened, OptionsOf, Part, Right, Sees, Send, ServerInfo, SetText, Settle, Sound, Task, TaskOf, TextOf, AText, faced, Unseat, UsersOf, World, apply, apply_all, body_at, count_list, counts_at, counts_by, edit, ends_at, ends_of, header_at, holders, home_at, info_in, is_empty_dir, is_on, names_open, new_site, one_if, open_at, part, rights_of, server_at, site_at, task_at, users, with_body, with_header, with_sent, with_text, EndsOf, AnEnds, ATotal, TotalOf, Header, Node, counts_for, total_if, total_at, tree_by, info_at, is_one, get, insert, Body}
 use Rattle.hurd_creds.proofs.NameLaws.{same_name-apart, get_apart, same_or_apart, edit_here, edit_apart as edit_other}
 use Rattle.hurd_machine.proofs.Faces.{face_in, text_in}
 use Rattle.hurd_ports.specs.Steps.{named}
@@ -226,14 +226,14 @@ module _ (w : World) (coherent : Coherent w) (T : Part → Type 0) where
 
   -- a header that counts for as much
   recounted : (k s : Name) (f : Header → Header) → (T (TotalOf s) → ⊥) → Recounts T w k f → total_at (next_world (EditHeader k f) w) s ≡ total_at w s
-  recounted k s f out (inl tree) = elim (cases_Bool (is_home s (home_at w k))) [
+  recounted k s f out (inl tree) = elim (cases_Bool (is_one s (home_at w k))) [
     | inl mine ↦
         let none : tree_by (server_at w s) ≡ false = ap (λ o. tree_by (info_in w.servers o)) (sym (home_is s (home_at w k) mine)) ∙ tree in
         total_part (tree_by (server_at w s)) (tree_by (server_at w s)) _ _ refl (λ is. absurd (true≢false (sym is ∙ none)))
     | inr other ↦ ap (total_if (tree_by (server_at w s))) (total_other w.nodes w.sites s k (with_header f) other)
   ]
   recounted k s f out (inr (inl same)) = ap (total_if (tree_by (server_at w s))) (total_still w.nodes w.sites s k (with_header f) (λ x is. same x.header (ap header_in is)))
-  recounted k s f out (inr (inr touched)) = elim (cases_Bool (is_home s (home_at w k))) [
+  recounted k s f out (inr (inr touched)) = elim (cases_Bool (is_one s (home_at w k))) [
     | inl mine ↦ absurd (out (touched s (home_is s (home_at w k) mine)))
     | inr other ↦ ap (total_if (tree_by (server_at w s))) (total_other w.nodes w.sites s k (with_header f) other)
   ]

@@ -2,7 +2,7 @@
 use Rattle.std.proofs.Common.{◌≡◌, ◌⊎◌, ℕ, Bool, true, true≢false, List, Some, length, nat_lt, sym, refl, ◌∙◌, ap, ap₂, subst, inl, inr, arith, ◌+◌, None}
 use Rattle.std.specs.Option.{option_map}
 use Rattle.hurd_machine.proofs.Faces.{face_in, text_in, face-with_text, text-with_text}
-use Rattle.hurd_machine.proofs.Common.{ABody, ATask, AUsers, AnEmpty, AnOpen, AnOptions, Attach, AttrOf, BodyOf, Change, Coherent, Control, DropServer, EditBody, EditHeader, EditOpen, EditTask, EmptyOf, Io, IsAmong, LetGo, MakeNode, MakeOpen, Name, OpenOf, OptionsOf, Part, Right, Send, SetText, Settle, Start, Task, TaskOf, TextOf, AText, ServerInfo, faced, Unseat, UsersOf, World, apply, body_at, count_rights, counts_at, counts_by, edit_task, ends_at, ends_of, get, header_at, holders, home_at, info_in, is_empty_dir, is_held, is_home, is_on, names_open, new_site, one_if, open_at, part, rights_of, server_at, site_at, task_at, users, with_body, with_header, with_sent, with_text, EndsOf, AnEnds, ATotal, TotalOf, Header, Node, counts_for, total_if, total_at, tree_by, edit, insert}
+use Rattle.hurd_machine.proofs.Common.{ABody, ATask, AUsers, AnEmpty, AnOpen, AnOptions, Attach, AttrOf, BodyOf, Change, Coherent, DropServer, EditBody, EditHeader, EditOpen, EditTask, EmptyOf, Io, IsAmong, LetGo, MakeNode, MakeOpen, Name, OpenOf, OptionsOf, Part, Right, Send, SetText, Settle, Task, TaskOf, TextOf, AText, ServerInfo, faced, Unseat, UsersOf, World, apply, body_at, count_rights, counts_at, counts_by, edit_task, ends_at, ends_of, get, header_at, holders, home_at, info_in, is_empty_dir, is_held, is_one, is_on, names_open, new_site, one_if, open_at, part, rights_of, server_at, site_at, task_at, users, with_body, with_header, with_sent, with_text, EndsOf, AnEnds, ATotal, TotalOf, Header, Node, counts_for, total_if, total_at, tree_by, edit, insert}
 use Rattle.hurd_nodes.proofs.Sites.{home-apart}
 use Rattle.hurd_creds.proofs.NameLaws.{same_or_apart, edit_apart}
 use Rattle.hurd_ports.specs.Steps.{named}
@@ -92,7 +92,7 @@ module _ (S : ℕ → Bool) (v x y : World) (before : Inside S v x) (cx : Cohere
 
   -- a right that S may hold is on a node of the same server in both
   same_side : (s : Name) (r : Right) → RightInside S v r → is_on y s r ≡ is_on x s r
-  same_side s (Io r) i = ap (is_home s) (home_same r.node (i.nodes r.node (inl refl)))
+  same_side s (Io r) i = ap (is_one s) (home_same r.node (i.nodes r.node (inl refl)))
   same_side s r i = refl
 
   -- counts of the rights of a task that S has, in both

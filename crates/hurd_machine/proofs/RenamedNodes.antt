@@ -3,8 +3,8 @@ use Rattle.std.proofs.Common.{◌≡◌, ◌||◌, ℕ, Bool, true, false, cond,
 use Rattle.std.specs.Prelude.{nat_lt, if◌then◌else◌, Ok, option_and_then}
 use Rattle.std.specs.Option.{option_map}
 use Rattle.std.specs.Str.{bytes_eq}
-use Rattle.hurd_trans_iface.specs.Nodes.{Entry, content_in}
-use Rattle.hurd_machine.proofs.Common.{Body, Content, Listing, Name, NameMap, Node, Site, World, active_at, are_kin, body_at, boot_name, entry_in, entry_of, get, header_at, home_at, home_in, is_dir, is_empty_dir, is_entered_at, is_home, is_listed, is_of, is_one, is_taken, list_any, lists, lists_at, names_of, node_at, passive_of, same_name, site_at, words_at, words_in}
+use Rattle.hurd_trans_iface.specs.Nodes.{Entry}
+use Rattle.hurd_machine.proofs.Common.{Body, Content, Listing, Name, NameMap, Node, Site, World, active_at, are_kin, body_at, boot_name, entry_in, entry_of, get, header_at, home_at, home_in, is_dir, is_empty_dir, is_entered_at, is_one, is_listed, is_of, is_taken, list_any, lists, lists_at, names_of, node_at, passive_of, same_name, site_at, words_at, words_in}
 use Rattle.hurd_machine.specs.Renamed.{OtherNames, body_renamed, entry_renamed, header_renamed, map_renamed, node_renamed, renamed, site_renamed}
 use Rattle.hurd_machine.proofs.RenamedMaps.{get-renamed, same_name-renamed}
 use Rattle.hurd_machine.proofs.Nodes.{by_option}
@@ -16,9 +16,9 @@ is_some-mapped g = by_option _ _ refl (λ x. refl)
 module _ (f : OtherNames) where
   -- names that may not be there
 
-  pub is_home-renamed : (s : Name) (o : Option Name) → is_home (f.to s) (option_map f.to o) ≡ is_home s o
-  is_home-renamed s None = refl
-  is_home-renamed s (Some q) = same_name-renamed f s q
+  pub is_one-renamed : (s : Name) (o : Option Name) → is_one (f.to s) (option_map f.to o) ≡ is_one s o
+  is_one-renamed s None = refl
+  is_one-renamed s (Some q) = same_name-renamed f s q
 
   pub are_kin-renamed : (o p : Option Name) → are_kin (option_map f.to o) (option_map f.to p) ≡ are_kin o p
   are_kin-renamed None p = refl
@@ -130,8 +130,8 @@ module _ (f : OtherNames) where
   home_in-renamed sites n = ap (option_map (λ (r : Site). r.home)) (get-renamed f (site_renamed f.to) sites n) ∙ home_of (get sites n)
 
   -- whether a node is of a server
-  pub is_home_in-renamed : (sites : NameMap Site) (s n : Name) → is_home (f.to s) (home_in (map_renamed f.to (site_renamed f.to) sites) (f.to n)) ≡ is_home s (home_in sites n)
-  is_home_in-renamed sites s n = ap (is_home (f.to s)) (home_in-renamed sites n) ∙ is_home-renamed s (home_in sites n)
+  pub is_home_in-renamed : (sites : NameMap Site) (s n : Name) → is_one (f.to s) (home_in (map_renamed f.to (site_renamed f.to) sites) (f.to n)) ≡ is_one s (home_in sites n)
+  is_home_in-renamed sites s n = ap (is_one (f.to s)) (home_in-renamed sites n) ∙ is_one-renamed s (home_in sites n)
 
   module _ (w : World) (n : Name) where
     pub site_at-renamed : site_at (renamed f w) (f.to n) ≡ option_map (site_renamed f.to) (site_at w n)

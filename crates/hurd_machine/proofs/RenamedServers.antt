@@ -1,11 +1,11 @@
 -- What is read of servers, of what they have in all, and of those who use their nodes, where things have other names.
-use Rattle.std.proofs.Common.{◌≡◌, ◌&&◌, ℕ, Bool, not, Option, Some, None, map, refl, sym, ap, ap₂, ◌∙◌, if◌then◌else◌}
+use Rattle.std.proofs.Common.{◌≡◌, ◌&&◌, ℕ, Bool, not, Option, Some, None, refl, sym, ap, ap₂, ◌∙◌, if◌then◌else◌}
 use Rattle.std.specs.Option.{option_map}
 use Rattle.hurd_nodes.specs.Needs.{streams_by}
-use Rattle.hurd_nodes.specs.Shown.{options_in, space_for}
+use Rattle.hurd_nodes.specs.Shown.{space_for}
 use Rattle.hurd_ports.specs.declared.table.Ends.{Ends}
 use Rattle.hurd_ports.specs.Tables.{ends}
-use Rattle.hurd_machine.proofs.Common.{Header, Name, NameMap, NodeMap, ServerInfo, World, READ, WRITE, asks, counts_at, counts_by, counts_for, ends_at, ends_of, get, gives_text, home_at, home_in, info_at, info_in, is_end, is_home, is_removed, is_root_at, is_root_of, is_server_root, leads_on, limit_by, nodes_in, one_if, only_reads, open_at, server_at, shape_at, shape_by, space_at, space_with, stream_at, targets_at, targets_in, total_at, total_if, total_in, tree_by}
+use Rattle.hurd_machine.proofs.Common.{Header, Name, NameMap, NodeMap, ServerInfo, World, READ, WRITE, asks, counts_at, counts_by, counts_for, ends_at, ends_of, get, gives_text, home_at, home_in, info_at, info_in, is_end, is_one, is_removed, is_root_at, is_root_of, is_server_root, leads_on, limit_by, nodes_in, one_if, only_reads, open_at, server_at, shape_at, shape_by, space_at, space_with, stream_at, total_at, total_if, total_in, tree_by}
 use Rattle.hurd_machine.specs.World.{nodes_of, readers_at, readers_in, writers_at, writers_in}
 use Rattle.hurd_machine.specs.Renamed.{OtherNames, header_renamed, info_renamed, map_renamed, node_renamed, open_renamed, renamed}
 use Rattle.hurd_machine.proofs.RenamedMaps.{get-renamed, retain_keys-renamed, same_name-renamed, total-renamed}
@@ -85,7 +85,7 @@ module _ (f : OtherNames) where
   module _ (w : World) where
     pub nodes_in-renamed : (s : Name) → nodes_in (renamed f w).nodes (renamed f w).sites (f.to s) ≡ map_renamed f.to (node_renamed f.to) (nodes_in w.nodes w.sites s)
     nodes_in-renamed s =
-        sym (retain_keys-renamed f (node_renamed f.to) w.nodes (λ n. is_home s (home_in w.sites n)) (λ n. is_home (f.to s) (home_in (renamed f w).sites n)) (is_home_in-renamed f w.sites s))
+        sym (retain_keys-renamed f (node_renamed f.to) w.nodes (λ n. is_one s (home_in w.sites n)) (λ n. is_one (f.to s) (home_in (renamed f w).sites n)) (is_home_in-renamed f w.sites s))
 
     pub total_in-renamed : (m : NodeMap) → total_in (map_renamed f.to (node_renamed f.to) m) ≡ total_in m
     unfolding total_in

@@ -1,7 +1,7 @@
 -- A server gets another text, and its nodes their sizes, as a piece of any call.
 use Rattle.std.proofs.Common.{◌≡◌, ◌≢◌, arith, length, map, ℕ, Bool, true, false, List, [], ◌∷◌, Option, Some, None, sym, refl, ◌∙◌, ap, subst, inl, inr}
 use Rattle.std.specs.Prelude.{is_some}
-use Rattle.hurd_machine.proofs.Common.{AreFilled, AttrOf, Change, Coherent, IsAmong, IsFilled, Name, NameMap, Node, NodeMap, OptionsOf, TextOf, faced, keeps_tree, known_text, Part, ServerInfo, SetText, Site, Sound, World, apply_all, changes_of, edit, edit_all, empty, entries, entries-insert, eq_by_cmp, get, get-empty, home_at, home_in, info_in, insert, is_home, list_any, name_cmp, own_nodes, put, retain_keys, retexting, server_at, size_of, sizing, sizing_unless, with_header, with_size, with_text, Seen, info_at, tree_by}
+use Rattle.hurd_machine.proofs.Common.{AreFilled, AttrOf, Change, Coherent, IsAmong, IsFilled, Name, NameMap, Node, NodeMap, OptionsOf, TextOf, faced, keeps_tree, known_text, Part, ServerInfo, SetText, Site, Sound, World, apply_all, changes_of, edit, edit_all, empty, entries, entries-insert, eq_by_cmp, get, get-empty, home_at, home_in, info_in, insert, is_one, list_any, name_cmp, own_nodes, put, retain_keys, retexting, server_at, size_of, sizing, sizing_unless, with_header, with_size, with_text, Seen, info_at, tree_by}
 use Rattle.std.specs.Option.{option_map}
 use Rattle.std.specs.FinMap.{keys, contains_key-keys, len-entries, len-empty}
 use Rattle.hurd_nodes.proofs.Sites.{site-of}
@@ -42,20 +42,20 @@ among_any n ns h = let l = any_of (ties n) ns h in subst (λ m. IsAmong m ns) (s
 pub own_here : (s n : Name) (sites : NameMap Site) → home_in sites n ≡ Some s → IsAmong n (own_nodes s sites)
 own_here s n sites e =
     let r = site-of sites n s e in
-    among_any n _ (sym (contains_key-keys (retain_keys sites (λ m. is_home s (home_in sites m))) n)
-    ∙ ap is_some (retained sites (λ m. is_home s (home_in sites m)) n (ap (is_home s) e ∙ same_name-itself s) ∙ r.1))
+    among_any n _ (sym (contains_key-keys (retain_keys sites (λ m. is_one s (home_in sites m))) n)
+    ∙ ap is_some (retained sites (λ m. is_one s (home_in sites m)) n (ap (is_one s) e ∙ same_name-itself s) ∙ r.1))
 
 pub own_home : (s n : Name) (sites : NameMap Site) → IsAmong n (own_nodes s sites) → home_in sites n ≡ Some s
 own_home s n sites i = go (get own n) refl
   where
     own : NameMap Site
-    own = retain_keys sites (λ m. is_home s (home_in sites m))
+    own = retain_keys sites (λ m. is_one s (home_in sites m))
 
     go : (o : Option Site) → get own n ≡ o → home_in sites n ≡ Some s
     go None e =
         let bad : false ≡ true = sym (ap is_some e) ∙ contains_key-keys own n ∙ any_among (ties n) n (keys own) i (tied-itself n) in
         absurd (cc)
-    go (Some q) e = home_is s (home_in sites n) (was_retained sites (λ m. is_home s (home_in sites m)) n q e).1
+    go (Some q) e = home_is s (home_in sites n) (was_retained sites (λ m. is_one s (home_in sites m)) n q e).1
 
 none_long : {A : Type 0} (xs : List A) → 0 ≡ length xs → xs ≡ []
 none_long [] e = refl
@@ -74,13 +74,13 @@ one_key m r x here none =
 own_one : (s r : Name) (sites : NameMap Site) → home_in sites r ≡ Some s → ((n : Name) → home_in sites n ≡ Some s → n ≡ r) → own_nodes s sites ≡ r ∷ []
 own_one s r sites at lone =
     let x = site-of sites r s at in
-    one_key (retain_keys sites own) r x.0 (retained sites own r (ap (is_home s) at ∙ same_name-itself s) ∙ x.1) (λ n apart. elim (cases_Bool (own n)) [
+    one_key (retain_keys sites own) r x.0 (retained sites own r (ap (is_one s) at ∙ same_name-itself s) ∙ x.1) (λ n apart. elim (cases_Bool (own n)) [
       | inl h ↦ absurd (apart (lone n (home_is s (home_in sites n) h)))
       | inr h ↦ dropped sites own n h
     ])
   where
     own : Name → Bool
-    own n = is_home s (home_in sites n)
+    own n = is_one s (home_in sites n)
 
 -- nodes that get a size
 

@@ -1,6 +1,6 @@
 -- What each part of a world is after a server came or went, or lost its seat.
 use Rattle.std.proofs.Common.{◌≡◌, ◌≢◌, ◌⊎◌, ℕ, not, Bool, true, false, cond, List, [], ◌∷◌, Option, Some, None, slice_get, sym, refl, ◌∙◌, ap, ap₂, subst, inl, inr, arith, ◌+◌}
-use Rattle.hurd_machine.proofs.Common.{ABody, ATask, AUsers, AnEmpty, AnOpen, AnOptions, AttrOf, Below, BodyOf, Coherent, Control, DropServer, EmptyOf, Io, IoRight, IsAmong, Name, Node, OpenOf, OptionsOf, Part, Right, ServerInfo, Start, Task, TaskOf, TextOf, AText, Unseat, UsersOf, World, active_at, apply, count_list, count_rights, edit_task, get, holders, home_at, insert, is_home, is_on, is_other, names_open, new_site, open_at, part, rights_of, server_at, site_at, users, vacated, with_active, ends_at, ends_of, info_at, counts_by, info_in, EndsOf, AnEnds, ATotal, TotalOf, NameMap, Site, counts_for, total_if, total_at, tree_by, edit}
+use Rattle.hurd_machine.proofs.Common.{ABody, ATask, AUsers, AnEmpty, AnOpen, AnOptions, AttrOf, Below, BodyOf, Coherent, DropServer, EmptyOf, Io, IoRight, IsAmong, Name, Node, OpenOf, OptionsOf, Part, Right, ServerInfo, Task, TaskOf, TextOf, AText, Unseat, UsersOf, World, active_at, apply, count_list, count_rights, edit_task, get, holders, home_at, insert, is_one, is_on, is_other, names_open, new_site, open_at, part, rights_of, server_at, site_at, users, vacated, with_active, ends_at, ends_of, info_at, counts_by, info_in, EndsOf, AnEnds, ATotal, TotalOf, NameMap, Site, counts_for, total_if, total_at, tree_by, edit}
 use Rattle.std.specs.Option.{option_map}
 use Rattle.hurd_machine.proofs.Faces.{face_in, text_in}
 use Rattle.hurd_nodes.proofs.Sites.{home-here, home-was, home-stays, home-edited, none-left, site-left, home_by}
@@ -24,7 +24,7 @@ abbrev pub IsInside : Name → Part → Type 0
 IsInside n k = (k ≡ EmptyOf n) ⊎ ((k ≡ BodyOf n) ⊎ (k ≡ EndsOf n))
 
 -- a server has the same users where the nodes of rights have servers as they had
-pub users_by : (w y : World) (s : Name) (ts : List Task) → ((t : ℕ) (x : Task) (r : IoRight) → slice_get ts t ≡ Some x → IsAmong (Io r) (rights_of x) → is_home s (home_at y r.node) ≡ is_home s (home_at w r.node))
+pub users_by : (w y : World) (s : Name) (ts : List Task) → ((t : ℕ) (x : Task) (r : IoRight) → slice_get ts t ≡ Some x → IsAmong (Io r) (rights_of x) → is_one s (home_at y r.node) ≡ is_one s (home_at w r.node))
     → count_rights (is_on y s) ts ≡ count_rights (is_on w s) ts
 users_by w y s ts same = count_alike (is_on y s) (is_on w s) ts on
   where
@@ -36,7 +36,7 @@ users_by w y s ts same = count_alike (is_on y s) (is_on w s) ts on
 pub users_named : (w y : World) (c : Coherent w) (n : Name) (next : IsNext w n) (k : ℕ) (m : Name) → (Below w m → ⊥) → ((q : Name) → q ≢ m → home_at y q ≡ home_at w q) → y.tasks ≡ edit_task n.task.0 (named k) w.tasks → (q : Name) → users y q ≡ users w q
 users_named w y c n next k m new homes tasks q =
     ap (count_rights (is_on y q)) tasks
-    ∙ users_by w y q (edit_task n.task.0 (named k) w.tasks) (λ t x r at i. ap (is_home q) (homes r.node (unnoded w c n next k m new t x (Io r) r.node at i (inl refl))))
+    ∙ users_by w y q (edit_task n.task.0 (named k) w.tasks) (λ t x r at i. ap (is_one q) (homes r.node (unnoded w c n next k m new t x (Io r) r.node at i (inl refl))))
     ∙ count_named (is_on w q) n.task.0 k w.tasks
 
 -- nothing is counted that passes no test
@@ -152,7 +152,7 @@ module _ (w : World) (s : Name) where
   dropped = apply (DropServer s) w
 
   abbrev other_at : Name → Bool
-  other_at n = not (is_home s (home_at w n))
+  other_at n = not (is_one s (home_at w n))
 
   node_after : (n : Name) → get dropped.nodes n ≡ cond (other_at n) (get w.nodes n) None
   node_after n = get-retained w.nodes (is_other s w.sites) n
@@ -175,18 +175,18 @@ module _ (w : World) (s : Name) where
           ap (info_in dropped.servers) (home-stays w.sites s n q apart e) ∙ server_apart q apart ∙ sym (ap (info_in w.servers) e)
 
   pub home_gone : (n : Name) → home_at w n ≡ Some s → home_at dropped n ≡ None
-  home_gone n e = ap home_by (site_after n ∙ ap (λ b. cond (not b) (option_map (vacated s) (site_at w n)) None) (ap (is_home s) e ∙ same_name-itself s))
+  home_gone n e = ap home_by (site_after n ∙ ap (λ b. cond (not b) (option_map (vacated s) (site_at w n)) None) (ap (is_one s) e ∙ same_name-itself s))
 
   -- a node is of another server as it was
   pub users_apart : (q : Name) → q ≢ s → users dropped q ≡ users w q
-  users_apart q apart = users_by w dropped q w.tasks (λ t x r at i. same_bool _ _ (λ h. ap (is_home q) (home-was w.sites s r.node q (home_is q _ h)) ∙ same_name-itself q)
-      (λ h. ap (is_home q) (home-stays w.sites s r.node q apart (home_is q _ h)) ∙ same_name-itself q))
+  users_apart q apart = users_by w dropped q w.tasks (λ t x r at i. same_bool _ _ (λ h. ap (is_one q) (home-was w.sites s r.node q (home_is q _ h)) ∙ same_name-itself q)
+      (λ h. ap (is_one q) (home-stays w.sites s r.node q apart (home_is q _ h)) ∙ same_name-itself q))
 
   -- what doesn't go is as it was
   pub drop_parts : (k : Part) → (Goes w s k → ⊥) → part dropped k ≡ part w k
   drop_parts (AttrOf n) out =
-      let home : is_home s (home_at w n) ≡ false = not_home s (home_at w n) (λ e. out (inl e)) in
-      let seat : is_home s (active_at w n) ≡ false = not_home s (active_at w n) (λ e. out (inr e)) in
+      let home : is_one s (home_at w n) ≡ false = not_home s (home_at w n) (λ e. out (inl e)) in
+      let seat : is_one s (active_at w n) ≡ false = not_home s (active_at w n) (λ e. out (inr e)) in
       attr_same (ap header_in (node_after n ∙ ap (λ b. cond (not b) (get w.nodes n) None) home)) (site_after n ∙ ap (λ b. cond (not b) (option_map (vacated s) (site_at w n)) None) home ∙ idle_site s (site_at w n) seat)
   drop_parts (EmptyOf n) out = ap (λ (o : Option Node). AnEmpty (empty_in o)) (node_after n ∙ ap (λ b. cond (not b) (get w.nodes n) None) (not_home s (home_at w n) out))
   drop_parts (BodyOf n) out = ap (λ (o : Option Node). ABody (body_in o)) (node_after n ∙ ap (λ b. cond (not b) (get w.nodes n) None) (not_home s (home_at w n) out))
@@ -216,8 +216,8 @@ module _ (x y : World) (s : Name) where
 
   read : {B : Type 0} (f : Option Node → B) (n : Name) → home_at y n ≡ home_at x n → f (get y.nodes n) ≡ f (get x.nodes n) → f (get left_y.nodes n) ≡ f (get left_x.nodes n)
   read f n home e =
-      ap f (node_after y s n) ∙ ap (λ o. f (cond (not (is_home s o)) (get y.nodes n) None)) home
-      ∙ none_map f (not (is_home s (home_at x n))) (get y.nodes n) (get x.nodes n) e ∙ sym (ap f (node_after x s n))
+      ap f (node_after y s n) ∙ ap (λ o. f (cond (not (is_one s o)) (get y.nodes n) None)) home
+      ∙ none_map f (not (is_one s (home_at x n))) (get y.nodes n) (get x.nodes n) e ∙ sym (ap f (node_after x s n))
 
   server_read : {B : Type 0} (f : Option ServerInfo → B) (q : Name) → f (server_at y q) ≡ f (server_at x q) → f (server_at left_y q) ≡ f (server_at left_x q)
   server_read f q e = elim (same_or_apart q s) [
@@ -242,7 +242,7 @@ module _ (x y : World) (s : Name) where
   pub drop_alike : (k : Part) → ((n : Name) → IsInside n k → home_at y n ≡ home_at x n) → part y k ≡ part x k → part left_y k ≡ part left_x k
   drop_alike (AttrOf n) homes e =
       let site : site_at y n ≡ site_at x n = cc in
-      attr_same (read header_in n (ap home_by site) (cc)) (site_after y s n ∙ ap (λ o. cond (not (is_home s (home_by o))) (option_map (vacated s) o) None) site ∙ sym (site_after x s n))
+      attr_same (read header_in n (ap home_by site) (cc)) (site_after y s n ∙ ap (λ o. cond (not (is_one s (home_by o))) (option_map (vacated s) o) None) site ∙ sym (site_after x s n))
   drop_alike (EmptyOf n) homes e = ap AnEmpty (read empty_in n (homes n (inl refl)) (cc))
   drop_alike (BodyOf n) homes e = ap ABody (read body_in n (homes n (inr (inl refl))) (cc))
   drop_alike (EndsOf n) homes e = ap AnEnds (drop_ends n (homes n (inr (inr refl))) (cc))
@@ -265,7 +265,7 @@ module _ (x y : World) (s : Name) where
 -- a server that lost its seat
 
 unseated_users : (w : World) (n s : Name) → users (apply (Unseat n) w) s ≡ users w s
-unseated_users w n s = users_by w (apply (Unseat n) w) s w.tasks (λ t x r at i. ap (is_home s) (home-edited w.sites n None r.node))
+unseated_users w n s = users_by w (apply (Unseat n) w) s w.tasks (λ t x r at i. ap (is_one s) (home-edited w.sites n None r.node))
 
 unseated_ends : (w : World) (n m : Name) → ends_at (apply (Unseat n) w) m ≡ ends_at w m
 unseated_ends w n m = ends_same w (apply (Unseat n) w) m (ap (info_in w.servers) (home-edited w.sites n None m)) refl

@@ -1,7 +1,7 @@
 -- A world is settled once what nothing names is gone: who sees it sees the same; and changes that leave a world settled.
 use Rattle.std.proofs.Common.{◌≡◌, ◌⊎◌, ℕ, Bool, true, List, [], ◌∷◌, Option, Some, None, slice_get, sym, refl, ◌∙◌, ap, ap₂, subst, inl, inr, true≢false}
 use Rattle.std.specs.Option.{option_map}
-use Rattle.hurd_machine.proofs.Common.{ABody, AUsers, Active, AnAttr, AnEmpty, AnOptions, AtRest, Attach, AttrOf, Body, BodyOf, Change, Child, Coherent, DropServer, EditBody, EditHeader, EditOpen, EditTask, EmptyOf, Header, Holds, IdSets, Io, IoRight, IsAmong, IsGone, IsSettled, Knows, LetGo, Linked, MakeNode, MakeOpen, Name, Node, NodeMap, NodeState, OfControl, OfNode, OfSeat, OpenFlags, OpenOf, OptionsOf, Part, Pending, Seen, Sees, Send, ServerInfo, ServerRoot, SetText, Settle, Site, Start, Target, Task, TaskOf, TextOf, AText, faced, Unseat, UsersOf, Way, World, apply, apply_all, body_at, edit, edit_task, ends_at, fresh, get, header_at, home_at, info_at, info_in, is_empty_dir, is_entered, is_entered_at, is_held, is_home, namings, new_open, new_right, new_site, outside, part, opening, ports_of, server_at, site_at, stays, task_at, users, with_body, with_header, with_port, with_sent, with_text, EndsOf, AnEnds, ATotal, TotalOf, total_if, total_at, tree_by}
+use Rattle.hurd_machine.proofs.Common.{ABody, AUsers, Active, AnAttr, AnEmpty, AnOptions, AtRest, Attach, AttrOf, Body, BodyOf, Change, Child, Coherent, DropServer, EditBody, EditHeader, EditOpen, EditTask, EmptyOf, Header, Holds, IdSets, Io, IoRight, IsAmong, IsGone, IsSettled, Knows, LetGo, Linked, MakeNode, MakeOpen, Name, Node, NodeMap, NodeState, OfControl, OfNode, OfSeat, OpenFlags, OpenOf, OptionsOf, Part, Pending, Seen, Sees, Send, ServerInfo, ServerRoot, SetText, Settle, Site, Start, Target, Task, TaskOf, TextOf, AText, faced, Unseat, UsersOf, Way, World, apply, apply_all, body_at, edit, edit_task, ends_at, fresh, get, header_at, home_at, info_at, info_in, is_empty_dir, is_entered, is_entered_at, is_held, is_one, namings, new_open, new_right, new_site, outside, part, opening, ports_of, server_at, site_at, stays, task_at, users, with_body, with_header, with_port, with_sent, with_text, EndsOf, AnEnds, ATotal, TotalOf, total_if, total_at, tree_by}
 use Rattle.hurd_machine.proofs.Sites.{seat_kept}
 use Rattle.hurd_nodes.proofs.Sites.{home-here, home-apart, home_by}
 use Rattle.hurd_creds.proofs.NameLaws.{same_or_apart, get_here, get_apart, edit_here, edit_apart}
@@ -45,7 +45,7 @@ settle_settled w held = record {
 
 -- the node of a right stays, so servers have as many users
 users_still : (w : World) → Coherent w → (s : Name) → users (sweep w) s ≡ users w s
-users_still w c s = users_by w (sweep w) s w.tasks (λ t x r at i. ap (λ o. is_home s (home_by o)) (retained_if w.sites (stays w) r.node (λ site e.
+users_still w c s = users_by w (sweep w) s w.tasks (λ t x r at i. ap (λ o. is_one s (home_by o)) (retained_if w.sites (stays w) r.node (λ site e.
     let home = ap home_by e in
     let k = home_server c r.node site.home home in
     stays_named w t x (Io r) r.node site.home k.0 at i (inl refl) home k.1)))

@@ -1,7 +1,7 @@
 -- The totals of servers after a change.
 use Rattle.std.proofs.Common.{if◌then◌else◌, is_some, nat_lt, ◌≡◌, ◌≢◌, ℕ, ◌+◌, Bool, true, false, cond, not, Option, Some, None, refl, sym, ap, ap₂, ◌∙◌, inl, inr, arith}
 use Rattle.std.specs.Option.{option_map}
-use Rattle.hurd_machine.proofs.Common.{Header, Name, NameMap, Node, NodeMap, Site, edit, get, home_in, insert, is_dir, is_entered, is_home, is_other, new_site, retain_keys, with_header, without_sites}
+use Rattle.hurd_machine.proofs.Common.{Header, Name, NameMap, Node, NodeMap, Site, edit, get, home_in, insert, is_dir, is_entered, is_one, is_other, new_site, retain_keys, with_header, without_sites}
 use Rattle.hurd_trans_iface.specs.Totals.{counts_for, total_in}
 use Rattle.hurd_nodes.specs.Totals.{nodes_in, total_if}
 use Rattle.hurd_creds.proofs.NameLaws.{same_map_by, same_or_apart, same_name-itself, same_name-apart, edit_here, edit_apart, edit_absent, get_here, get_apart}
@@ -59,7 +59,7 @@ own_total nodes sites s = total_in (nodes_in nodes sites s)
 
 module _ (nodes : NodeMap) (sites : NameMap Site) (s : Name) where
   abbrev own : Name → Bool
-  own n = is_home s (home_in sites n)
+  own n = is_one s (home_in sites n)
 
   -- of another server's node
   pub total_other : (k : Name) (g : Node → Node) → own k ≡ false → own_total (edit k g nodes) sites s ≡ own_total nodes sites s
@@ -85,20 +85,20 @@ module _ (nodes : NodeMap) (sites : NameMap Site) (s : Name) where
   unfolding total_in
   total_homes others same =
       ap (total count) (same_map_by (nodes_in nodes others s) (nodes_in nodes sites s) (λ n.
-      get-retained nodes (λ q. is_home s (home_in others q)) n ∙ ap (λ o. cond (is_home s o) (get nodes n) None) (same n) ∙ sym (get-retained nodes own n)))
+      get-retained nodes (λ q. is_one s (home_in others q)) n ∙ ap (λ o. cond (is_one s o) (get nodes n) None) (same n) ∙ sym (get-retained nodes own n)))
 
   -- with a new node of a server
   module _ (k q : Name) (node : Node) (new : get nodes k ≡ None) where
     abbrev grown : Name → Bool
-    grown n = is_home s (home_in (insert sites k (new_site q)) n)
+    grown n = is_one s (home_in (insert sites k (new_site q)) n)
 
     same_homes : (n : Name) → n ≢ k → grown n ≡ own n
-    same_homes n a = ap (is_home s) (home-apart sites k (new_site q) n a)
+    same_homes n a = ap (is_one s) (home-apart sites k (new_site q) n a)
 
     pub total_made : s ≡ q → own_total (insert nodes k node) (insert sites k (new_site q)) s ≡ own_total nodes sites s + count node
     unfolding total_in
     total_made is =
-        let mine : grown k ≡ true = ap (is_home s) (home-here sites k (new_site q)) ∙ rw is (same_name-itself q) in
+        let mine : grown k ≡ true = ap (is_one s) (home-here sites k (new_site q)) ∙ rw is (same_name-itself q) in
         let none : get (nodes_in nodes sites s) k ≡ None = get-retained nodes own k ∙ nothing (own k) (get nodes k) new in
         let sum = ap (λ (m : NodeMap). total count m) (kept_insert nodes k own grown same_homes node mine) in
         let put = total_insert count (nodes_in nodes sites s) k node in
@@ -113,7 +113,7 @@ module _ (nodes : NodeMap) (sites : NameMap Site) (s : Name) where
     pub total_unmade : s ≢ q → own_total (insert nodes k node) (insert sites k (new_site q)) s ≡ own_total nodes sites s
     unfolding total_in
     total_unmade apart =
-        let other : grown k ≡ false = ap (is_home s) (home-here sites k (new_site q)) ∙ same_name-apart s q apart in
+        let other : grown k ≡ false = ap (is_one s) (home-here sites k (new_site q)) ∙ same_name-apart s q apart in
         ap (total count) (kept_new nodes k own grown same_homes node new other)
 
   -- of a server that has no node
@@ -126,19 +126,19 @@ module _ (nodes : NodeMap) (sites : NameMap Site) (s : Name) where
   unfolding total_in
   total_left q apart =
       ap (total count) (same_map_by _ _ (λ n.
-      get-retained (retain_keys nodes (is_other q sites)) (λ r. is_home s (home_in (without_sites q sites) r)) n
+      get-retained (retain_keys nodes (is_other q sites)) (λ r. is_one s (home_in (without_sites q sites) r)) n
       ∙ ap₂ (λ (b : Bool) (o : Option Node). cond b o None) (same_home n) (get-retained nodes (is_other q sites) n)
       ∙ both (home_in sites n) (get nodes n) ∙ sym (get-retained nodes own n)))
     where
-      same_home : (n : Name) → is_home s (home_in (without_sites q sites) n) ≡ own n
-      same_home n = same_bool _ _ (λ h. ap (is_home s) (home-was sites q n s (home_is s _ h)) ∙ same_name-itself s) (λ h. ap (is_home s) (home-stays sites q n s apart (home_is s _ h)) ∙ same_name-itself s)
+      same_home : (n : Name) → is_one s (home_in (without_sites q sites) n) ≡ own n
+      same_home n = same_bool _ _ (λ h. ap (is_one s) (home-was sites q n s (home_is s _ h)) ∙ same_name-itself s) (λ h. ap (is_one s) (home-stays sites q n s apart (home_is s _ h)) ∙ same_name-itself s)
 
-      both : (o : Option Name) (x : Option Node) → cond (is_home s o) (cond (not (is_home q o)) x None) None ≡ cond (is_home s o) x None
-      both o x = elim (cases_Bool (is_home s o)) [
+      both : (o : Option Name) (x : Option Node) → cond (is_one s o) (cond (not (is_one q o)) x None) None ≡ cond (is_one s o) x None
+      both o x = elim (cases_Bool (is_one s o)) [
         | inl mine ↦
-            let other : is_home q o ≡ false = not_home q o (λ e. apart (let equal : Some q ≡ Some s = sym e ∙ home_is s o mine in cc)) in
-            ap (λ b. cond (is_home s o) (cond (not b) x None) None) other
-        | inr out ↦ ap (λ b. cond b (cond (not (is_home q o)) x None) None) out ∙ sym (ap (λ b. cond b x None) out)
+            let other : is_one q o ≡ false = not_home q o (λ e. apart (let equal : Some q ≡ Some s = sym e ∙ home_is s o mine in cc)) in
+            ap (λ b. cond (is_one s o) (cond (not b) x None) None) other
+        | inr out ↦ ap (λ b. cond b (cond (not (is_one q o)) x None) None) out ∙ sym (ap (λ b. cond b x None) out)
       ]
 
   -- without nodes of its own that count for nothing, and any of others
@@ -146,13 +146,13 @@ module _ (nodes : NodeMap) (sites : NameMap Site) (s : Name) where
   unfolding total_in
   total_swept p none =
       ap (total count) (same_map_by _ (retain_keys (nodes_in nodes sites s) p) (λ n.
-      get-retained (retain_keys nodes p) (λ q. is_home s (home_in (retain_keys sites p) q)) n
-      ∙ ap₂ (λ (o : Option Name) (x : Option Node). cond (is_home s o) x None) (home-kept sites p n) (get-retained nodes p n)
+      get-retained (retain_keys nodes p) (λ q. is_one s (home_in (retain_keys sites p) q)) n
+      ∙ ap₂ (λ (o : Option Name) (x : Option Node). cond (is_one s o) x None) (home-kept sites p n) (get-retained nodes p n)
       ∙ both (p n) (home_in sites n) (get nodes n)
       ∙ ap (λ x. cond (p n) x None) (sym (get-retained nodes own n)) ∙ sym (get-retained (nodes_in nodes sites s) p n)))
       ∙ total_retained count (nodes_in nodes sites s) p (λ n x out is. let l = was_own n x is in none n x out l.0 l.1)
     where
-      both : (b : Bool) (o : Option Name) (x : Option Node) → cond (is_home s (cond b o None)) (cond b x None) None ≡ cond b (cond (is_home s o) x None) None
+      both : (b : Bool) (o : Option Name) (x : Option Node) → cond (is_one s (cond b o None)) (cond b x None) None ≡ cond b (cond (is_one s o) x None) None
       both true o x = refl
       both false o x = refl
 
@@ -171,18 +171,18 @@ unentered_none h out = go (is_dir h.kind) out
 
 module _ (nodes others : NodeMap) (sites places : NameMap Site) (s k : Name) (f : Header → Header) (home : home_in places k ≡ home_in sites k) (header : header_in (get others k) ≡ header_in (get nodes k)) where
   pub total_alike : own_total others places s ≡ own_total nodes sites s → own_total (edit k (with_header f) others) places s ≡ own_total (edit k (with_header f) nodes) sites s
-  total_alike e = elim (cases_Bool (is_home s (home_in sites k))) [
+  total_alike e = elim (cases_Bool (is_one s (home_in sites k))) [
     | inl mine ↦ go (get nodes k) (get others k) refl refl header mine
-    | inr other ↦ total_other others places s k (with_header f) (ap (is_home s) home ∙ other) ∙ e ∙ sym (total_other nodes sites s k (with_header f) other)
+    | inr other ↦ total_other others places s k (with_header f) (ap (is_one s) home ∙ other) ∙ e ∙ sym (total_other nodes sites s k (with_header f) other)
   ]
     where
-      go : (o p : Option Node) → get nodes k ≡ o → get others k ≡ p → header_in p ≡ header_in o → is_home s (home_in sites k) ≡ true
+      go : (o p : Option Node) → get nodes k ≡ o → get others k ≡ p → header_in p ≡ header_in o → is_one s (home_in sites k) ≡ true
           → own_total (edit k (with_header f) others) places s ≡ own_total (edit k (with_header f) nodes) sites s
       go None None ox py same mine =
           ap (λ (m : NodeMap). own_total m places s) (edit_absent others k (with_header f) py) ∙ e ∙ sym (ap (λ (m : NodeMap). own_total m sites s) (edit_absent nodes k (with_header f) ox))
       go (Some a) (Some b) ox py same mine =
           let one : own_total (edit k (with_header f) nodes) sites s + counts_for a.header ≡ own_total nodes sites s + counts_for (f a.header) = total_here nodes sites s k (with_header f) mine a ox in
-          let two : own_total (edit k (with_header f) others) places s + counts_for b.header ≡ own_total others places s + counts_for (f b.header) = total_here others places s k (with_header f) (ap (is_home s) home ∙ mine) b py in
+          let two : own_total (edit k (with_header f) others) places s + counts_for b.header ≡ own_total others places s + counts_for (f b.header) = total_here others places s k (with_header f) (ap (is_one s) home ∙ mine) b py in
           let alike : b.header ≡ a.header = cc (same) in
           let was : counts_for b.header ≡ counts_for a.header = ap counts_for alike in
           let now : counts_for (f b.header) ≡ counts_for (f a.header) = ap (λ (h : Header). counts_for (f h)) alike in

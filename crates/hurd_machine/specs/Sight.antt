@@ -16,7 +16,8 @@ use Rattle.hurd_trans_iface.specs.declared.begun.ServerKind.{ServerKind}
 use Rattle.hurd_trans_iface.specs.Texts.{reads_text, told_text}
 use Rattle.hurd_nodes.specs.declared.seat.Site.{Site}
 use Rattle.hurd_creds.specs.NameMaps.{NameMap}
-use Rattle.hurd_nodes.specs.Held.{home_in, is_home}
+use Rattle.hurd_creds.specs.Names.{is_one}
+use Rattle.hurd_nodes.specs.Held.{home_in}
 use Rattle.hurd_nodes.specs.Shown.{ServerInfo, boot_name, with_text}
 use Rattle.hurd_ports.specs.declared.table.Ends.{Ends}
 use Rattle.hurd_ports.specs.declared.table.Opened.{Opened}
@@ -177,7 +178,7 @@ Sees S w (TaskOf t) = S t ≡ true
 
 -- whether a right is to use a node that a server has, by these sites
 abbrev pub uses_server : NameMap Site → Name → Right → Bool
-uses_server sites s (Io r) = is_home s (home_in sites r.node)
+uses_server sites s (Io r) = is_one s (home_in sites r.node)
 uses_server sites s (Control q) = false
 uses_server sites s (Start n) = false
 

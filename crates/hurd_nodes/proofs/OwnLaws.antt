@@ -8,14 +8,14 @@ use Rattle.std.specs.List.{list_any}
 use Rattle.std.specs.FinMap as fin
 use Rattle.indexmap.specs.IndexMap.{set_value_at}
 use Rattle.hurd_creds.specs.declared.name.Name.{Name}
-use Rattle.hurd_creds.specs.Names.{same_name}
+use Rattle.hurd_creds.specs.Names.{is_one, same_name}
 use Rattle.hurd_creds.specs.NameMaps.{NameMap, place_by}
 use Rattle.std.proofs.lemmas.Option.{same_Some}
 use Rattle.hurd_creds.proofs.NameLaws.{equal_if_same, get_apart, get_here, same_map_by, same_name-itself, same_or_apart}
 use Rattle.hurd_trans_iface.specs.Nodes.{is_listed}
 use Rattle.hurd_nodes.specs.declared.seat.Seat.{Seat}
 use Rattle.hurd_nodes.specs.declared.seat.Site.{Site}
-use Rattle.hurd_nodes.specs.Held.{AreApart, active_in, home_in, is_home, seat_key, seat_value, sites_of, seats_of}
+use Rattle.hurd_nodes.specs.Held.{AreApart, active_in, home_in, seat_key, seat_value, sites_of, seats_of}
 use Rattle.hurd_nodes.specs.Quiet.{IsTold, Lists}
 use Rattle.hurd_nodes.specs.Tables.{AreTables}
 use Rattle.hurd_nodes.specs.Settle.{any_in}
@@ -41,25 +41,25 @@ listed-kept p n (m ∷ ns) passes on = elim (or_cases (same_name n m) (is_listed
 
 -- what is active where its seat says is active somewhere, and else nowhere
 module _ {S : Type 0} (sites : NameMap Site) (s : Name) (e : Seat S) (t : IsTold sites (s, e)) where
-  at_seat : (o : Option Name) → is_home s (option_and_then (active_in sites) o) ≡ true → (n : Name) × (active_in sites n ≡ Some s)
+  at_seat : (o : Option Name) → is_one s (option_and_then (active_in sites) o) ≡ true → (n : Name) × (active_in sites n ≡ Some s)
   at_seat None is = absurd (true≢false (sym is))
   at_seat (Some n) is = (n, own_home s (active_in sites n) is)
 
-  pub active-placed : is_home s (option_and_then (active_in sites) e.at) ≡ any_in (λ n (r : Site). is_home s r.active) sites
+  pub active-placed : is_one s (option_and_then (active_in sites) e.at) ≡ any_in (λ n (r : Site). is_one s r.active) sites
   active-placed = same_bool _ _
       (λ is.
       let a = at_seat e.at is in
       let r = seat-site sites a.0 s a.1 in
-      any_in-here (λ n (r : Site). is_home s r.active) sites a.0 r.0 r.1 (ap (is_home s) r.2 ∙ same_name-itself s))
+      any_in-here (λ n (r : Site). is_one s r.active) sites a.0 r.0 r.1 (ap (is_one s) r.2 ∙ same_name-itself s))
       (λ some.
-      let f = any_in-found (λ n (r : Site). is_home s r.active) sites some in
+      let f = any_in-found (λ n (r : Site). is_one s r.active) sites some in
       let on : active_in sites f.name ≡ Some s = ap active_by f.is ∙ own_home s f.item.active f.holds in
-      ap (λ (o : Option Name). is_home s (option_and_then (active_in sites) o)) (t.placed f.name on) ∙ ap (is_home s) on ∙ same_name-itself s)
+      ap (λ (o : Option Name). is_one s (option_and_then (active_in sites) o)) (t.placed f.name on) ∙ ap (is_one s) on ∙ same_name-itself s)
 
   -- a node of it that is named is on its list
   module _ (named : Name → Bool) where
     abbrev on_list : Name → Bool
-    on_list n = is_home s (home_in sites n) && named n
+    on_list n = is_one s (home_in sites n) && named n
 
     abbrev on_site : Name → Site → Bool
     on_site n r = same_name s r.home && named n
@@ -68,7 +68,7 @@ module _ {S : Type 0} (sites : NameMap Site) (s : Name) (e : Seat S) (t : IsTold
     listed_found [] none = absurd (true≢false (sym none))
     listed_found (n ∷ ns) some = elim (or_cases (on_list n) (list_any on_list ns) some) [
       | inl here ↦
-          let both = and_parts (is_home s (home_in sites n)) (named n) here in
+          let both = and_parts (is_one s (home_in sites n)) (named n) here in
           let r = site-of sites n s (own_home s (home_in sites n) both.0) in
           any_in-here on_site sites n r.0 r.1 (and_from (same_name s r.0.home) (named n) (ap (same_name s) r.2 ∙ same_name-itself s) both.1)
       | inr later ↦ listed_found ns later
@@ -82,7 +82,7 @@ module _ {S : Type 0} (sites : NameMap Site) (s : Name) (e : Seat S) (t : IsTold
         let both = and_parts (same_name s f.item.home) (named f.name) f.holds in
         let home : home_in sites f.name ≡ Some s = ap home_by f.is ∙ ap Some (sym (equal_if_same s f.item.home both.0)) in
         any-more (same_name f.name) on_list (e.root ∷ e.own.items)
-        (λ q same. rw (← equal_if_same f.name q same) (and_from (is_home s (home_in sites f.name)) (named f.name) (ap (is_home s) home ∙ same_name-itself s) both.1))
+        (λ q same. rw (← equal_if_same f.name q same) (and_from (is_one s (home_in sites f.name)) (named f.name) (ap (is_one s) home ∙ same_name-itself s) both.1))
         (t.listed f.name home))
 
 -- where the first doesn't hold, the second tells

@@ -6,9 +6,10 @@ use Rattle.std.specs.FinMap as fin
 use Rattle.hurd_creds.specs.declared.name.Name.{Name}
 use Rattle.hurd_creds.specs.NameMaps.{NameMap, edit}
 use Rattle.hurd_creds.proofs.NameLaws.{same_or_apart, same_name-apart, edit_here, remove_apart}
+use Rattle.hurd_creds.specs.Names.{is_one}
 use Rattle.hurd_nodes.specs.declared.seat.Seat.{Seat}
 use Rattle.hurd_nodes.specs.declared.seat.Site.{Site}
-use Rattle.hurd_nodes.specs.Held.{active_in, home_in, is_home, new_site}
+use Rattle.hurd_nodes.specs.Held.{active_in, home_in, new_site}
 use Rattle.hurd_nodes.specs.Shown.{is_other, with_active, without_sites}
 use Rattle.hurd_nodes.specs.Quiet.{IsQuiet}
 use Rattle.hurd_nodes.proofs.Sites.{active-apart, active-edited_apart, active-left, active_by, home-apart, home-edited, active-inserted, active-was_edited}
@@ -41,7 +42,7 @@ module _ {S : Type 0} (sites : NameMap Site) (x : Name × Seat S) (q : IsQuiet s
     seat_other : is_other s sites q.seat ≡ true
     seat_other = by (home_in sites q.seat) refl
       where
-        by : (u : Option Name) → home_in sites q.seat ≡ u → not (is_home s u) ≡ true
+        by : (u : Option Name) → home_in sites q.seat ≡ u → not (is_one s u) ≡ true
         by None home = refl
         by (Some p) home = elim (same_or_apart s p) [
           | inl same ↦ absurd (guests q.seat (home ∙ ap Some (sym same)) q.active)

@@ -8,12 +8,13 @@ use Rattle.hurd_creds.specs.declared.name.Name.{Name}
 use Rattle.hurd_creds.specs.NameMaps.{NameMap, place_by}
 use Rattle.hurd_creds.proofs.NameLaws.{same_map_by, same_name-itself}
 use Rattle.hurd_creds.proofs.Retained.{get-retained}
+use Rattle.hurd_creds.specs.Names.{is_one}
 use Rattle.hurd_trans_iface.specs.Nodes.{Node}
 use Rattle.hurd_trans_iface.specs.Meaning.{Meaning, keeps_tree, space_of}
 use Rattle.hurd_trans_iface.specs.Totals.{space_with, total_in}
 use Rattle.hurd_nodes.specs.declared.seat.Site.{Site}
 use Rattle.hurd_nodes.specs.declared.seat.Seat.{Seat}
-use Rattle.hurd_nodes.specs.Held.{Seated, box_by, home_in, is_home, mean, mean_seat, seat_key, seat_value, seats_of, sites_of}
+use Rattle.hurd_nodes.specs.Held.{Seated, box_by, home_in, mean, mean_seat, seat_key, seat_value, seats_of, sites_of}
 use Rattle.hurd_nodes.specs.Shown.{ServerInfo, flat, node_in, nodes_in, nodes_of, servers_of, space_at, space_for, tree_by}
 use Rattle.hurd_nodes.specs.Totals.{total_if, total_of}
 use Rattle.hurd_nodes.proofs.GoneLaws.{own_home}
@@ -24,14 +25,14 @@ use Rattle.hurd_nodes.proofs.ShownLaws.{get-nodes, get-servers}
 module _ (sites : NameMap Site) (seats : NameMap (Seated Meaning)) (tells : TellsAll sites seats) where
   module _ (s : Name) (e : Seated Meaning) (is : fin.get seats s ≡ Some e) where
     abbrev mine : Name → Bool
-    mine n = is_home s (home_in sites n)
+    mine n = is_one s (home_in sites n)
 
     -- of a node of another server the box has none
     not_other : (n : Name) → mine n ≡ false → (o : Option Node) → fin.get e.server.nodes n ≡ o → None ≡ o
     not_other n other None held = refl
     not_other n other (Some x) held =
         let home = tells s n e is (ap (λ (p : Option Node). is_some p) held) in
-        absurd (true≢false (sym (ap (is_home s) home ∙ same_name-itself s) ∙ other))
+        absurd (true≢false (sym (ap (is_one s) home ∙ same_name-itself s) ∙ other))
 
     there : (n : Name) → mine n ≡ true → fin.get (nodes_of sites seats) n ≡ fin.get e.server.nodes n
     there n ours =

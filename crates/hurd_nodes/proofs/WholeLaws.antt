@@ -11,7 +11,7 @@ use Rattle.hurd_trans_iface.specs.Answers.{edits_if}
 use Rattle.hurd_trans_iface.specs.Meaning.{Meaning, edited}
 use Rattle.hurd_nodes.specs.declared.seat.Seat.{Seat}
 use Rattle.hurd_nodes.specs.declared.seat.Site.{Site}
-use Rattle.hurd_nodes.specs.Held.{AreApart, Held, Seated, box_by, held_of, home_in, mean, place_in, seat_key, seats_of, sites_of}
+use Rattle.hurd_nodes.specs.Held.{AreApart, Held, Seated, box_by, held_of, home_in, mean, place_of_home, seat_key, seats_of, sites_of}
 use Rattle.hurd_nodes.specs.Quiet.{AreAmong, AreCalm, AreForeign, AreOld, Behind}
 use Rattle.hurd_nodes.specs.Shown.{HideNothing, without_server}
 use Rattle.hurd_nodes.specs.Aims.{AreAims}
@@ -34,7 +34,7 @@ whole-seat f rs ss es k s i x at read w keeps hides whole = record {
 }
 
 -- the box of a node's server, at its place
-module _ {S : Type 0} (f : S → Meaning) (rs : List (Name × Site)) (ss : List (Name × Seat S)) (n : Name) (i : ℕ) (x : Seat S) (at : Some i ≡ place_in ss (home_in (sites_of rs) n)) (read : slice_get (values_of ss) i ≡ Some x) where
+module _ {S : Type 0} (f : S → Meaning) (rs : List (Name × Site)) (ss : List (Name × Seat S)) (n : Name) (i : ℕ) (x : Seat S) (at : Some i ≡ place_of_home ss (home_in (sites_of rs) n)) (read : slice_get (values_of ss) i ≡ Some x) where
   pub box-there : Some (f x.server) ≡ box_by (mean f (seats_of ss)) (home_in (sites_of rs) n)
   box-there = sym (box-placed f ss (home_in (sites_of rs) n) i x at read)
 

@@ -25,18 +25,7 @@ pub(crate) fn forget_at<S: Server>(seats: &mut Seats<S>, home: Option<ServerName
     }
 }
 
-/// Lets the box of a node's server forget it, if it has a server. The node's site stays for now.
-pub(crate) fn forget<S: Server>(sites: &Sites, seats: &mut Seats<S>, node: NodeName)
-    ensures boxes { mean S.meaning (seats_of seats.new.entries) ≡ forgotten node (home_in (sites_of sites.now.entries) node) (mean S.meaning (seats_of seats.old.entries)) }
-    ensures kept { (es : _) (k : ℕ) → AreKept sites.now.entries seats.old.entries es k → AreKept sites.now.entries seats.new.entries es k }
-    ensures calm { (k : ℕ) → AreCalm S.meaning seats.old.entries k → AreCalm S.meaning seats.new.entries k }
-    ensures lists { (o n : _) → Lists seats.old.entries o n → Lists seats.new.entries o n }
-    ensures room { spare seats.old ≤ spare seats.new }
-{
-    forget_at(seats, home_of(sites, node), node);
-}
-
-/// The same, but where another node has that server too.
+/// Lets the box of a node's server forget it, if it has a server that another node hasn't too. The node's site stays for now.
 pub(crate) fn forget_elsewhere<S: Server>(
     sites: &Sites,
     seats: &mut Seats<S>,
@@ -50,20 +39,13 @@ pub(crate) fn forget_elsewhere<S: Server>(
     ensures lists { (o n : _) → Lists seats.old.entries o n → Lists seats.new.entries o n }
 {
     let home = home_of(sites, node);
-    if !are_same(home, home_of(sites, kin)) {
+    if !are_kin(home, home_of(sites, kin)) {
         forget_at(seats, home, node);
     }
 }
 
-/// Whether two nodes are of one server.
-pub(crate) fn are_kin(sites: &Sites, node: NodeName, other: NodeName) -> bool
-    ensures { let m = sites_of sites.now.entries in result ≡ are_kin (home_in m node) (home_in m other) }
-{
-    are_same(home_of(sites, node), home_of(sites, other))
-}
-
 /// Whether two servers are given, and are the same.
-pub(crate) fn are_same(home: Option<ServerName>, other: Option<ServerName>) -> bool
+pub(crate) fn are_kin(home: Option<ServerName>, other: Option<ServerName>) -> bool
     ensures { result ≡ are_kin home other }
 {
     match (home, other) {

@@ -13,9 +13,9 @@ ghost use Rattle.hurd_nodes.specs.Shown.{less_old, without_server};
 
 use crate::aims::{Aims, subtract_targets};
 use crate::asked::{ask_given, put_last};
-use crate::search::{is_active_on, is_home, place_of_seat, remove_site, servers_at, set_active};
+use crate::search::{is_active_on, place_of_seat, remove_site, servers_at, set_active};
 use crate::seat::{Seat, Seats, Sites};
-use hurd_creds::{NodeName, ServerName};
+use hurd_creds::{NodeName, ServerName, is_one};
 use hurd_trans_iface::Server;
 
 /// Takes out a server: the sites of its nodes, wherever it is active itself, and its seat with its box; answers how many servers are asked then.
@@ -99,7 +99,7 @@ fn clear_site<S>(
     ensures room { (spare sites.old ≤ spare sites.new) × (spare seats.old ≤ spare seats.new) }
 {
     let (home, active) = servers_at(sites, node);
-    if !is_home(server, home) {
+    if !is_one(server, home) {
         return asked;
     }
     let asked = ask_given(seats, asked, active);

@@ -356,7 +356,7 @@ impl<S: Server> Nodes<S> {
     pub fn are_kin(&self, node: NodeName, other: NodeName) -> bool
         ensures { result ≡ are_kin (home_in self.now.sites node) (home_in self.now.sites other) }
     {
-        are_kin(&self.sites, node, other)
+        are_kin(self.home(node), self.home(other))
     }
 
     /// How many bytes there are to read in a node at a place, if the node is there. Takes no memory.

@@ -1,9 +1,9 @@
 //! The list that a server's seat keeps of its nodes: all but the root, and some that are gone or were never made.
 ghost use Rattle.std.specs.Prelude.{◌≡◌, ◌<◌, ℕ, true, ◌||◌, ◌&&◌, length, Some, OnOk};
 ghost use Rattle.std.specs.List.{list_any};
-ghost use Rattle.hurd_creds.specs.Names.{same_name};
+ghost use Rattle.hurd_creds.specs.Names.{is_one, same_name};
 ghost use Rattle.hurd_trans_iface.specs.Nodes.{is_listed};
-ghost use Rattle.hurd_nodes.specs.Held.{AreApart, home_in, is_home, place_in, seat_key, seats_of, sites_of};
+ghost use Rattle.hurd_nodes.specs.Held.{AreApart, home_in, place_of_home, seat_key, seats_of, sites_of};
 ghost use Rattle.hurd_trans_iface.specs.Meaning.{Meaning};
 ghost use Rattle.hurd_nodes.specs.Quiet.{AreCalm, Behind, IsTold, Lists};
 ghost use Rattle.hurd_nodes.specs.declared.seat.Seat.{Seat};
@@ -28,10 +28,10 @@ pub(crate) fn list_node<S>(
     kin: NodeName,
 ) -> Result<(), AllocError>
     requires apart { AreApart seat_key seats.old.entries }
-    requires place { Some i ≡ place_in seats.old.entries (home_in (sites_of sites.now.entries) kin) }
+    requires place { Some i ≡ place_of_home seats.old.entries (home_in (sites_of sites.now.entries) kin) }
     requires below { i < length seats.old.entries }
     ensures is { seats_of seats.new.entries ≡ seats_of seats.old.entries }
-    ensures place { Some i ≡ place_in seats.new.entries (home_in (sites_of sites.now.entries) kin) }
+    ensures place { Some i ≡ place_of_home seats.new.entries (home_in (sites_of sites.now.entries) kin) }
     ensures below { i < length seats.new.entries }
     ensures tables { (k : ℕ) → AreTables sites.now.entries seats.old.entries k → AreTables sites.now.entries seats.new.entries k }
     ensures calm { (f : S → Meaning) (k : ℕ) → AreCalm f seats.old.entries k → AreCalm f seats.new.entries k }
@@ -79,7 +79,7 @@ pub(crate) fn keeps_itself<S, N: Namings>(
 ) -> bool
     requires { IsTold (sites_of sites.now.entries) (server, seat.now) }
     ensures { let m = sites_of sites.now.entries in
-        result ≡ (any_in (λ n r. is_home server r.active) m || any_in (λ n r. same_name server r.home && (N.outside namings.now).held n) m) }
+        result ≡ (any_in (λ n r. is_one server r.active) m || any_in (λ n r. same_name server r.home && (N.outside namings.now).held n) m) }
 {
     if is_active_on(sites, server, seat.at) {
         return true;
@@ -92,7 +92,7 @@ pub(crate) fn keeps_itself<S, N: Namings>(
 
 /// Whether one of these is a node of this server, and named.
 fn are_held<N: Namings>(sites: &Sites, server: ServerName, nodes: &[NodeName], namings: &N) -> bool
-    ensures { result ≡ list_any (λ n. is_home server (home_in (sites_of sites.now.entries) n) && (N.outside namings.now).held n) nodes.now }
+    ensures { result ≡ list_any (λ n. is_one server (home_in (sites_of sites.now.entries) n) && (N.outside namings.now).held n) nodes.now }
 {
     nodes
         .iter()
@@ -101,7 +101,7 @@ fn are_held<N: Namings>(sites: &Sites, server: ServerName, nodes: &[NodeName], n
 
 /// Whether a node is of this server, and named.
 fn is_held<N: Namings>(sites: &Sites, server: ServerName, node: NodeName, namings: &N) -> bool
-    ensures { result ≡ (is_home server (home_in (sites_of sites.now.entries) node) && (N.outside namings.now).held node) }
+    ensures { result ≡ (is_one server (home_in (sites_of sites.now.entries) node) && (N.outside namings.now).held node) }
 {
     is_own(sites, server, node) && namings.names(node)
 }

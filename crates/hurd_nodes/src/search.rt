@@ -4,7 +4,8 @@ ghost use Rattle.std.specs.Prelude.{◌≡◌, ◌<◌, ◌≤◌, ◌⊎◌, �
 ghost use Rattle.std.specs.FinMap as fin;
 ghost use Rattle.indexmap.specs.IndexMap.{spare};
 ghost use Rattle.hurd_creds.specs.NameMaps.{edit, place_by};
-ghost use Rattle.hurd_nodes.specs.Held.{AreApart, active_in, home_in, is_home, new_site, place_in, row_key, sites_of, seat_key, seat_value, seats_of};
+ghost use Rattle.hurd_creds.specs.Names.{is_one};
+ghost use Rattle.hurd_nodes.specs.Held.{AreApart, active_in, home_in, new_site, place_of_home, row_key, sites_of, seat_key, seat_value, seats_of};
 ghost use Rattle.hurd_nodes.specs.Quiet.{AreOld, Behind, IsUnknown, Lists};
 ghost use Rattle.hurd_nodes.specs.Tables.{AreTables};
 ghost use Rattle.hurd_nodes.specs.Shown.{with_active, with_home};
@@ -13,7 +14,7 @@ ghost use Rattle.hurd_nodes.specs.Settle.{any_in};
 use crate::aims::Aims;
 use crate::asked::{active_on, ask, ask_active};
 use crate::seat::{Seat, Seats, Site, Sites};
-use hurd_creds::{NodeName, ServerName};
+use hurd_creds::{NodeName, ServerName, is_one};
 use std::alloc::AllocError;
 
 /// The server of a node.
@@ -41,7 +42,7 @@ pub(crate) fn servers_at(sites: &Sites, node: NodeName) -> (Option<ServerName>, 
 /// Whether the first seat is that of this server.
 #[inline(always)]
 fn is_first<S>(seats: &Seats<S>, name: ServerName) -> bool
-    ensures { result ≡ is_home name (option_map seat_key (slice_get seats.now.entries 0)) }
+    ensures { result ≡ is_one name (option_map seat_key (slice_get seats.now.entries 0)) }
 {
     match seats.get_index(0) {
         Some((first, _)) => name == *first,
@@ -64,7 +65,7 @@ pub(crate) fn place_of_seat<S>(seats: &Seats<S>, name: ServerName) -> Option<usi
 /// The index of the seat of a server, if one is given.
 #[inline(always)]
 pub(crate) fn place_of_home<S>(seats: &Seats<S>, home: Option<ServerName>) -> Option<usize>
-    ensures is { result ≡ place_in seats.now.entries home }
+    ensures is { result ≡ place_of_home seats.now.entries home }
     ensures below { IfSome result (λ i. i < length seats.now.entries) }
 {
     match home {
@@ -76,7 +77,7 @@ pub(crate) fn place_of_home<S>(seats: &Seats<S>, home: Option<ServerName>) -> Op
 /// The index of the seat of a node's server.
 #[inline(always)]
 pub(crate) fn place_of_server<S>(sites: &Sites, seats: &Seats<S>, node: NodeName) -> Option<usize>
-    ensures is { result ≡ place_in seats.now.entries (home_in (sites_of sites.now.entries) node) }
+    ensures is { result ≡ place_of_home seats.now.entries (home_in (sites_of sites.now.entries) node) }
     ensures below { IfSome result (λ i. i < length seats.now.entries) }
 {
     place_of_home(seats, home_of(sites, node))
@@ -213,30 +214,19 @@ pub(crate) fn reserve_rows<S>(
     aims.reserve(targets)
 }
 
-/// Whether a server is given, and is this one.
-#[inline(always)]
-pub(crate) fn is_home(server: ServerName, given: Option<ServerName>) -> bool
-    ensures { result ≡ is_home server given }
-{
-    match given {
-        Some(given) => server == given,
-        None => false,
-    }
-}
-
 /// Whether a server is active on this node, if one is given.
 pub(crate) fn is_active_on(sites: &Sites, server: ServerName, node: Option<NodeName>) -> bool
-    ensures { result ≡ is_home server (option_and_then (active_in (sites_of sites.now.entries)) node) }
+    ensures { result ≡ is_one server (option_and_then (active_in (sites_of sites.now.entries)) node) }
 {
     let Some(node) = node else {
         return false;
     };
-    is_home(server, active_on(sites, node))
+    is_one(server, active_on(sites, node))
 }
 
 /// Whether a node is of this server.
 pub(crate) fn is_own(sites: &Sites, server: ServerName, node: NodeName) -> bool
-    ensures { result ≡ is_home server (home_in (sites_of sites.now.entries) node) }
+    ensures { result ≡ is_one server (home_in (sites_of sites.now.entries) node) }
 {
-    is_home(server, home_of(sites, node))
+    is_one(server, home_of(sites, node))
 }

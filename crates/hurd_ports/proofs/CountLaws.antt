@@ -1,12 +1,12 @@
 -- What is counted of the names that rights have.
-use Rattle.std.proofs.Common.{◌≡◌, inl, inr, ℕ, zero, suc, ◌+◌, ◌*◌, ◌<◌, ◌≤◌, ◌||◌, List, [], ◌∷◌, ◌++◌, Bool, true, false, map, length, drop, refl, sym, ap, ◌∙◌, arith, add-one, length-append}
+use Rattle.std.proofs.Common.{◌≡◌, ℕ, zero, suc, ◌+◌, ◌*◌, ◌<◌, ◌≤◌, ◌||◌, List, [], ◌∷◌, ◌++◌, Bool, true, false, map, length, drop, refl, sym, ap, ◌∙◌, arith, add-one, length-append}
 use Rattle.std.proofs.lemmas.List.{drop_all, length-map, length-set}
 use Rattle.std.specs.Prelude.{Option, Some, None, slice_get, slice_set, slice_index_or, nat_lt}
 use Rattle.hurd_creds.specs.Names.{same_name}
 use Rattle.hurd_creds.specs.Limits.{most_tasks}
 use Rattle.hurd_creds.specs.declared.name.Name.{Name}
 use Rattle.hurd_creds.specs.Access.{IdSets}
-use Rattle.hurd_creds.proofs.NameLaws.{same_name-itself, same_name-apart, same_or_apart}
+use Rattle.hurd_creds.proofs.NameLaws.{name_turned, same_name-itself}
 use Rattle.hurd_ports.specs.declared.book.Book.{Book}
 use Rattle.hurd_ports.specs.declared.parents.Parent.{Parent}
 use Rattle.hurd_ports.specs.declared.table.PendingStart.{PendingStart}
@@ -53,12 +53,6 @@ ways_most p [] = omega arith
 ways_most p (w ∷ ws) = omega (arith, ways_most p ws, one_at_most (p w.at), one_at_most (p w.parent))
 
 -- whether a right names something is told by how often it does
-
-pub name_turned : (a b : Name) → same_name a b ≡ same_name b a
-name_turned a b = elim (same_or_apart a b) [
-  | inl e ↦ rw e refl
-  | inr apart ↦ same_name-apart a b apart ∙ sym (same_name-apart b a (λ e. apart (sym e)))
-]
 
 pub opens_told : (n : Name) (r : Right) → one_if (names_open n r) ≡ naming Opens n r
 opens_told n (Io r) = omega (arith, ap one_if (name_turned r.open_name n))

@@ -12,4 +12,3 @@ pub mod CountLaws
 pub mod FillLaws
 pub mod SettleLaws
 pub mod EndLaws
-pub mod LowerLaws

@@ -36,8 +36,8 @@ abbrev pub AreInOrder : List Port → Type 0
 AreInOrder ps = (next : ℕ) × NumbersRise 0 next ps
 
 -- the index of the port of this number
-abbrev pub place_in : ℕ → List Port → Option ℕ
-place_in number ps = position (λ p. number == p.number) ps
+abbrev pub place_of_port : ℕ → List Port → Option ℕ
+place_of_port number ps = position (λ p. number == p.number) ps
 
 -- for the task that is ready, there is room for an open, for what a right names and for a port; the number says for how many opens
 abbrev pub IsReady : ℕ → Book → List TaskSeat → Option TaskId → Type 0

@@ -11,7 +11,7 @@ ghost use Rattle.hurd_ports.specs.Counts.{Besides, HasRoom, Opens, Servers, Sort
 
 use crate::parents::{MOST_PARENTS, Parent};
 use crate::table::{PendingStart, Right};
-use hurd_creds::counts::{Counts, add, count};
+use hurd_creds::counts::{Counts, add, count, subtract};
 use hurd_creds::{Name, NodeName, OpenName, ServerName};
 use std::alloc::{AllocError, Global};
 
@@ -79,16 +79,16 @@ impl Book {
     {
         match right {
             Right::Io(right) => {
-                lower(&mut self.uses, right.node);
+                subtract(&mut self.uses, right.node, 1);
                 subtract_ways(&mut self.besides, right.parents.as_slice());
-                lower(&mut self.opens, right.open_name)
+                subtract(&mut self.opens, right.open_name, 1)
             }
             Right::Control(server) => {
-                lower(&mut self.servers, *server);
+                subtract(&mut self.servers, *server, 1);
                 None
             }
             Right::Start(node) => {
-                lower(&mut self.besides, *node);
+                subtract(&mut self.besides, *node, 1);
                 None
             }
         }
@@ -100,7 +100,7 @@ impl Book {
         ensures { (k : Sort) (n : Name) → count_of k n self.new + weigh_list (naming k n) (start_of pending.now) ≡ count_of k n self.old }
     {
         if let Some(start) = pending {
-            lower(&mut self.besides, start.node);
+            subtract(&mut self.besides, start.node, 1);
         }
     }
 
@@ -133,24 +133,6 @@ impl Book {
     }
 }
 
-/// Counts the name once less, and keeps nothing of it if it is counted no more; then it answers it. One search.
-#[inline(always)]
-pub(crate) fn lower(counts: &mut Counts, name: Name) -> Option<Name>
-    requires { 0 < counted counts.old.entries name }
-    ensures less { (n : Name) → counted counts.new.entries n + one_if (same_name n name) ≡ counted counts.old.entries n }
-    ensures gone { result ≡ (if nat_lt 0 (counted counts.new.entries name) then None else Some name) }
-{
-    let (index, _, count) = counts.get_full(&name).unwrap();
-    if *count > 1 {
-        let (_, count) = counts.pair_mut(index);
-        *count -= 1;
-        None
-    } else {
-        counts.swap_remove_index(index);
-        Some(name)
-    }
-}
-
 /// Counts both nodes of each way once more. There is room for two names more for each.
 fn add_ways(nodes: &mut Counts, ways: &[Parent])
     requires room { length ways.now + length ways.now ≤ spare nodes.old }
@@ -170,7 +152,7 @@ fn subtract_ways(nodes: &mut Counts, ways: &[Parent])
     ensures { (n : Name) → counted nodes.new.entries n + count_list (same_name n) (ways_of ways.now) ≡ counted nodes.old.entries n }
 {
     for way in ways {
-        lower(nodes, way.at);
-        lower(nodes, way.parent);
+        subtract(nodes, way.at, 1);
+        subtract(nodes, way.parent, 1);
     }
 }

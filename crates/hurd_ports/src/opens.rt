@@ -11,9 +11,8 @@ ghost use Rattle.hurd_creds.specs.declared.name.Name.{Name};
 ghost use Rattle.hurd_ports.specs.Tables.{ends};
 ghost use Rattle.hurd_ports.specs.Steps.{appending, at_cursor, new_open};
 
-use crate::book::lower;
 use crate::table::Opened;
-use hurd_creds::counts::{Counts, add, count};
+use hurd_creds::counts::{Counts, add, count, subtract};
 use hurd_creds::{NodeName, OpenFlags, OpenName};
 use indexmap::IndexMap;
 use std::alloc::{AllocError, Global};
@@ -152,6 +151,6 @@ fn subtract_if(counts: &mut Counts, node: NodeName, is_for: bool)
     ensures { (n : Name) → counted counts.new.entries n + one_if (same_name n node && is_for) ≡ counted counts.old.entries n }
 {
     if is_for {
-        lower(counts, node);
+        subtract(counts, node, 1);
     }
 }

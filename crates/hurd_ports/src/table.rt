@@ -3,7 +3,7 @@ ghost use Rattle.std.specs.Prelude.{◌≡◌, ℕ, ◌+◌, ◌<◌, Ok, Some, 
 ghost use Rattle.hurd_creds.specs.Memory.{Steps};
 ghost use Rattle.hurd_ports.specs.Tables.{can_name, fresh, has_room, right_in};
 ghost use Rattle.hurd_ports.specs.Steps.{named, received, with_ids, with_ids_for, with_pending, with_port, with_sent, without_port};
-ghost use Rattle.hurd_ports.specs.Seats.{AreInOrder, HasSpare, place_in, seat_task};
+ghost use Rattle.hurd_ports.specs.Seats.{AreInOrder, HasSpare, place_of_port, seat_task};
 
 use crate::parents::Parents;
 use hurd_creds::{Errno, Ids, Name, NodeName, OpenFlags, OpenName, ServerName, TaskId};
@@ -211,7 +211,7 @@ impl TaskSeat {
     #[inline(always)]
     pub(crate) fn place(&self, number: u64) -> Option<usize>
         requires { AreInOrder self.now.ports.items }
-        ensures is { result ≡ place_in number self.now.ports.items }
+        ensures is { result ≡ place_of_port number self.now.ports.items }
         ensures below { IfSome result (λ i. i < length self.now.ports.items) }
     {
         self.ports
@@ -222,7 +222,7 @@ impl TaskSeat {
     /// Takes out the port at this index. No search.
     pub(crate) fn remove(&mut self, index: usize)
         requires { index < length self.old.ports.items }
-        ensures { (number : ℕ) → place_in number self.old.ports.items ≡ Some index → seat_task self.new ≡ without_port number (seat_task self.old) }
+        ensures { (number : ℕ) → place_of_port number self.old.ports.items ≡ Some index → seat_task self.new ≡ without_port number (seat_task self.old) }
     {
         self.ports.remove(index);
     }

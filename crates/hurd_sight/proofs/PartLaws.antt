@@ -2,7 +2,7 @@
 use Rattle.std.proofs.Common.{◌≡◌, ◌∙◌, ◌⊎◌, inl, inr, sym, refl, ap, subst, ℕ, Bool, true, List, [], ◌∷◌, if◌then◌else◌}
 use Rattle.std.specs.Prelude.{◌↔◌, ◌||◌, ◌&&◌, not, is_some, Option, Some, slice_get}
 use Rattle.std.specs.FinMap as fin
-use Rattle.hurd_machine.proofs.Common.{BodyOf, InRoot, SeesText, TextOf, ToControl, is_home, ByBody, ByControl, ByNode, ByParent, BySeat, Control, Could, CouldServe, Dir, Exec, Header, Holds, IdSets, Io, IoRight, IsAmong, IsOpen, Knows, MaySend, Name, NodeState, OfControl, OfNode, OfSeat, Opened, OwnsIt, PortState, READ, Read, Right, Seen, Sees, SeesBody, SeesEmpty, SeesTotal, Sends, ServerInfo, Start, Task, TaskId, ToPut, ToRead, ToSearch, WRITE, Want, World, Write, active_at, asks, bare, boot_name, counts_at, flat_map, header_at, header_of, home_at, is_dir, limit_by, limit_of, open_at, owns, put, same_name, server_at, tree_by, world_from}
+use Rattle.hurd_machine.proofs.Common.{BodyOf, InRoot, SeesText, TextOf, ToControl, is_one, ByBody, ByControl, ByNode, ByParent, BySeat, Control, Could, CouldServe, Dir, Exec, Header, Holds, IdSets, Io, IoRight, IsAmong, IsOpen, Knows, MaySend, Name, NodeState, OfControl, OfNode, OfSeat, Opened, OwnsIt, PortState, READ, Read, Right, Seen, Sees, SeesBody, SeesEmpty, SeesTotal, Sends, ServerInfo, Start, Task, TaskId, ToPut, ToRead, ToSearch, WRITE, Want, World, Write, active_at, asks, bare, boot_name, counts_at, flat_map, header_at, header_of, home_at, is_dir, limit_by, limit_of, open_at, owns, put, same_name, server_at, tree_by, world_from}
 use Rattle.std.specs.Global.{Vec}
 use Rattle.std.proofs.lemmas.Bool.{or_cases, or_left, or_right, and_parts, and_from, not-true}
 use Rattle.hurd_creds.proofs.NameLaws.{equal_if_same, same_name-itself, apart_if_not_same, same_name-apart}
@@ -401,7 +401,7 @@ module _ (S : ℕ → Bool) (w : World) (v : Sight) (l : Looks S w v) where
   text_to s root i is at e = elim (or_cases (is_in s v.sendable || is_in s v.rights.controlled) (shows_root (nodes_of w) v s root) e) [
     | inl sent ↦ ToControl (sends_to s i is sent)
     | inr shown ↦
-        let p = and_parts (is_home s (home_at w root)) (tells_text (shape_at (nodes_of w) root) && sees_with (nodes_of w) v (seen.Body root)) shown in
+        let p = and_parts (is_one s (home_at w root)) (tells_text (shape_at (nodes_of w) root) && sees_with (nodes_of w) v (seen.Body root)) shown in
         let q = and_parts (tells_text (shape_at (nodes_of w) root)) (sees_with (nodes_of w) v (seen.Body root)) p.1 in
         let here : home_at w root ≡ Some s = home_is s (home_at w root) p.0 in
         let home : home_at w i.root ≡ Some s = ap (home_at w) at ∙ here in
@@ -414,7 +414,7 @@ module _ (S : ℕ → Bool) (w : World) (v : Sight) (l : Looks S w v) where
   text_from s i is (ToControl sends) = or_left (is_in s v.sendable || is_in s v.rights.controlled) (shows_root (nodes_of w) v s i.root) (sends_from s i is sends)
   text_from s i is (InRoot reads sees home h there body) =
       or_right (is_in s v.sendable || is_in s v.rights.controlled) (shows_root (nodes_of w) v s i.root)
-      (and_from (is_home s (home_at w i.root)) (tells_text (shape_at (nodes_of w) i.root) && sees_with (nodes_of w) v (seen.Body i.root)) (ap (is_home s) home ∙ same_name-itself s)
+      (and_from (is_one s (home_at w i.root)) (tells_text (shape_at (nodes_of w) i.root) && sees_with (nodes_of w) v (seen.Body i.root)) (ap (is_one s) home ∙ same_name-itself s)
       (and_from (tells_text (shape_at (nodes_of w) i.root)) (sees_with (nodes_of w) v (seen.Body i.root)) (ap tells_text (root_shape s i.root i home is) ∙ reads) ((body_seen i.root).1 (sees, h, there, body))))
 
   text_seen : (s : Name) → (sees_with (nodes_of w) v (seen.Text s) ≡ true) ↔ Sees S w (TextOf s)

@@ -5,11 +5,11 @@ use Rattle.hurd_creds.specs.declared.name.Name.{Name}
 use Rattle.hurd_creds.specs.declared.attrs.Want.TheVariants.{Read, Write, Exec}
 use Rattle.hurd_creds.specs.Access.{IdSets}
 use Rattle.hurd_creds.specs.Bits.{READ, WRITE}
-use Rattle.hurd_creds.specs.Names.{same_name}
+use Rattle.hurd_creds.specs.Names.{is_one, same_name}
 use Rattle.hurd_trans_iface.specs.Nodes.{Header, header_of, is_dir}
 use Rattle.hurd_trans_iface.specs.declared.root.Root.{Root}
 use Rattle.hurd_nodes.specs.Shown.{NodeState, ServerInfo, boot_name, limit_by, server_of, tree_by}
-use Rattle.hurd_nodes.specs.Held.{home_in, is_home}
+use Rattle.hurd_nodes.specs.Held.{home_in}
 use Rattle.std.specs.Option.{option_map}
 use Rattle.hurd_nodes.specs.Needs.{counts_by}
 use Rattle.hurd_ports.specs.declared.table.Right.TheVariants.{Control}
@@ -75,7 +75,7 @@ tells_text (Some r) = reads_text r
 
 -- whether it is seen what is in a node of a server, and reading that gives the text
 abbrev pub shows_root : NodeState → Sight → Name → Name → Bool
-shows_root h v s root = is_home s (home_in h.sites root) && (tells_text (shape_at h root) && (is_found root v.found && reads_with h v root (header_of h.nodes root)))
+shows_root h v s root = is_one s (home_in h.sites root) && (tells_text (shape_at h root) && (is_found root v.found && reads_with h v root (header_of h.nodes root)))
 
 -- whether the text of a server is seen, by its root, if it is there: it may be sent away, or reading the root gives it
 abbrev pub shows_text : NodeState → Sight → Name → Option Name → Bool

@@ -3,7 +3,7 @@ use Rattle.std.specs.Prelude.{ℕ, nat_lt, not, Bool, true, false, cond, is_some
 use Rattle.std.specs.Str.{bytes_eq}
 use Rattle.std.specs.Option.{option_map}
 use Rattle.hurd_creds.specs.declared.name.Name.{Name}
-use Rattle.hurd_creds.specs.Names.{same_name}
+use Rattle.hurd_creds.specs.Names.{is_one}
 use Rattle.hurd_creds.specs.declared.attrs.Kind.{Kind}
 use Rattle.hurd_creds.specs.declared.attrs.Kind.TheVariants.{File, Dir}
 use Rattle.hurd_creds.specs.declared.errno.Errno.{Errno}
@@ -145,11 +145,6 @@ rename_of keeps name kin (Some d) t =
 abbrev pub move_edits : Name → List ℕ → Name → List ℕ → Name → Option Name → List Edit
 move_edits dir name to new n m =
     unlink_edits to new m ++ OnBody dir (without_entry name) ∷ OnHeader n (moved_to to) ∷ OnBody to (with_entry new n) ∷ []
-
--- whether what a name names, if anything, is this node
-abbrev pub is_one : Name → Option Name → Bool
-is_one n None = false
-is_one n (Some m) = same_name n m
 
 -- from what `name` names to what `new` names; where the two are one node nothing changes
 abbrev pub rename_edits : Name → List ℕ → Name → List ℕ → Option Name → Option Name → List Edit

@@ -2,7 +2,8 @@ use Rattle.std.proofs.Common.{◌≡◌, Bool, ◌||◌, ◌&&◌, ◌∷◌, sy
 use Rattle.std.proofs.lemmas.Bool.{or_left, or_right}
 use Rattle.std.specs.List.{list_any}
 use Rattle.hurd_creds.specs.declared.name.Name.{Name}
-use Rattle.hurd_nodes.specs.Held.{home_in, is_home, sites_of}
+use Rattle.hurd_creds.specs.Names.{is_one}
+use Rattle.hurd_nodes.specs.Held.{home_in, sites_of}
 use Rattle.hurd_nodes.proofs.OwnLaws.{active-placed, held-listed, or_second}
 use Rattle.hurd_nodes.proofs.own.keeps_itself.Goals as goal
 
@@ -21,7 +22,7 @@ returns g c =
     let m = sites_of c.args.sites.now.entries in
     let s = c.args.server in
     let named = (g.N.Namings.outside c.args.namings.now).held in
-    let mine = λ (n : Name). is_home s (home_in m n) && named n in
+    let mine = λ (n : Name). is_one s (home_in m n) && named n in
     let idle = sym (active-placed m s e c.requires) ∙ sym c.is_active_on.ensures ∙ c.if-is_active_on.false in
     let listed : c.are_held.result ≡ list_any mine (e.root ∷ e.own.items) =
     c.are_held.ensures ∙ ap (list_any mine) c.deref.ensures.value ∙ sym (ap (λ (b : Bool). b || list_any mine e.own.items) (sym c.is_held.ensures ∙ c.if-is_held.false)) in

@@ -3,7 +3,7 @@ use Rattle.std.specs.Prelude.{Option, slice_get}
 use Rattle.hurd_creds.specs.declared.name.Name.{Name}
 use Rattle.indexmap.specs.IndexMap.{set_value_at}
 use Rattle.hurd_nodes.specs.declared.seat.Seat.{Seat}
-use Rattle.hurd_nodes.specs.Held.{place_in}
+use Rattle.hurd_nodes.specs.Held.{place_of_home}
 use Rattle.hurd_nodes.proofs.CalmLaws.{calm-put}
 use Rattle.hurd_nodes.proofs.OwnLaws.{length-kept, on-ok, own-lists, own-tables, own-unseen}
 use Rattle.hurd_nodes.proofs.RowLaws.{place-kept}
@@ -22,7 +22,7 @@ returns-clause-place g c =
     let ss = c.args.seats.now.entries in
     let p = placed ss _ c.args.i c.requires.place in
     let y : Seat g.row.S.Denot = record c.index_mut.result.now { own = c.push_own.new.own } in
-    p.2 ∙ sym (place-kept ss c.args.i y p.0) ∙ sym (ap (λ (o : Option Name). place_in (set_value_at ss c.args.i y) o) p.1)
+    p.2 ∙ sym (place-kept ss c.args.i y p.0) ∙ sym (ap (λ (o : Option Name). place_of_home (set_value_at ss c.args.i y) o) p.1)
 
 pub returns-clause-below : goal.returns-clause-below
 returns-clause-below g c =

@@ -8,8 +8,8 @@ use Rattle.hurd_ports.proofs.book.subtract_ways.Goals as goal
 abbrev none : Parent
 none = record { at = record { task = record { 0 = 0 }; count = 0 }; parent = record { task = record { 0 = 0 }; count = 0 } }
 
-pub lower-requires : goal.lower-requires
-lower-requires c =
+pub subtract-requires : goal.subtract-requires
+subtract-requires c =
     let ws = c.args.ways.now in
     let i = c.loop-way.way-index in
     let way = slice_index_or ws i none in
@@ -19,8 +19,8 @@ lower-requires c =
     let one = one_itself way.at in
     omega arith
 
-pub lower-requires-in-loop-way : goal.lower-requires-in-loop-way
-lower-requires-in-loop-way c =
+pub subtract-requires-in-loop-way : goal.subtract-requires-in-loop-way
+subtract-requires-in-loop-way c =
     let ws = c.args.ways.now in
     let i = c.loop-way.way-index in
     let way = slice_index_or ws i none in
@@ -28,7 +28,7 @@ lower-requires-in-loop-way c =
     let left = c.loop-way.invariant.less way.parent in
     let all = c.requires way.parent in
     let one = one_itself way.parent in
-    let less = c.lower.ensures.less way.parent in
+    let less = c.subtract.ensures.less way.parent in
     omega arith
 
 pub loop-way-preserved : goal.loop-way-preserved
@@ -36,8 +36,8 @@ loop-way-preserved c = record {
   less = λ n.
       let next = ways_next (same_name n) c.args.ways.now c.loop-way.way-index none c.loop-way-test.true in
       let left = c.loop-way.invariant.less n in
-      let first = c.lower.ensures.less n in
-      let second = c.lower-in-loop-way.ensures.less n in
+      let first = c.subtract.ensures.less n in
+      let second = c.subtract-in-loop-way.ensures.less n in
       omega arith;
 }
 

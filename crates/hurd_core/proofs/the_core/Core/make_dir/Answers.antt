@@ -1,7 +1,7 @@
 -- Leave, a name, the server's making: each refusal in its place, and then the machine's making.
 use Rattle.std.proofs.Common.{◌≡◌, Bool, refl, sym, ap, inl, inr, arith}
 use Rattle.std.specs.Prelude.{is_ok}
-use Rattle.hurd_machine.proofs.Common.{Dir, NodeState, Right, count_rights, home_in, is_home, shown, uses_node, uses_server}
+use Rattle.hurd_machine.proofs.Common.{Dir, NodeState, Right, count_rights, home_in, is_one, shown, uses_node, uses_server}
 use Rattle.std.proofs.lemmas.Result.{err_from_is_err_and}
 use Rattle.hurd_core.specs.ToMake.{new_node_of}
 use Rattle.hurd_core.proofs.DirLaws.{dir-refused, dir-unnamed, dir-lacks, dir-made, makes-dir}
@@ -63,4 +63,4 @@ invariant_of-self-2 g c =
     let others = made-apart N H t (new_node_of c.args.dir) Dir name c.node.result (shown f c.make.new.self) (sym c.in_ok-can_make.ensures) c.node.ensures c.in_ok-make.ensures.shown in
     let named : (T : Right → Bool) → count_rights T c.take_name.new.self.state.tasks ≡ count_rights T H.tasks = rw c.take_name.ensures.named (λ T. count_named T t 1 H.tasks) in
     rehoused c.self.inside.nodes.sites b name others H.tasks c.take_name.new.self.state.tasks 0 c.of-before.result c.of-now.result c.of-before.ensures.server c.of-before.ensures.uses c.of-now.ensures.server c.of-now.ensures.uses
-    (omega (arith, named (uses_node name))) (λ s. omega (arith, named (uses_server b s), zero_if (is_home s (home_in b name)))) _ _ _ c.self.invariant c.reserve.ensures.entries c.rehouse.ensures
+    (omega (arith, named (uses_node name))) (λ s. omega (arith, named (uses_server b s), zero_if (is_one s (home_in b name)))) _ _ _ c.self.invariant c.reserve.ensures.entries c.rehouse.ensures

@@ -1,7 +1,7 @@
 -- Room, leave, memory, the server's making, the port: each refusal in its place, and then the machine's making.
 use Rattle.std.proofs.Common.{Bool, ◌≡◌, true, refl, sym, inl, ap, ap₂, arith}
 use Rattle.hurd_creds.proofs.NameLaws.{same_name-itself}
-use Rattle.hurd_machine.proofs.Common.{File, NodeState, Right, count_rights, home_in, is_home, shown, uses_node, uses_server, world_from}
+use Rattle.hurd_machine.proofs.Common.{File, NodeState, Right, count_rights, home_in, is_one, shown, uses_node, uses_server, world_from}
 use Rattle.hurd_core.proofs.RightLaws.{open-does}
 use Rattle.hurd_machine.proofs.Tasks.{count_named}
 use Rattle.hurd_core.proofs.UserLaws.{inserted_counts, rehoused, unhoused_fits, users_still}
@@ -100,4 +100,4 @@ invariant_of-self-2 g c =
     let uses = rw c.in_ok-reserve.ensures.kept at c.of-before.ensures.uses in
     rehoused c.self.inside.nodes.sites b name others H.tasks c.fill-port.new.self.state.tasks 1 c.of-before.result c.of-now.result c.of-before.ensures.server uses c.of-now.ensures.server c.of-now.ensures.uses
     (omega (arith, named (uses_node name), filled (uses_node name) name c.args.ids c.args.parents c.args.modes _ true (λ x. same_name-itself name) put))
-    (λ s. omega (arith, named (uses_server b s), filled (uses_server b s) name c.args.ids c.args.parents c.args.modes _ (is_home s (home_in b name)) (λ x. refl) put)) _ _ _ c.self.invariant c.reserve-2.ensures.entries c.rehouse.ensures
+    (λ s. omega (arith, named (uses_server b s), filled (uses_server b s) name c.args.ids c.args.parents c.args.modes _ (is_one s (home_in b name)) (λ x. refl) put)) _ _ _ c.self.invariant c.reserve-2.ensures.entries c.rehouse.ensures

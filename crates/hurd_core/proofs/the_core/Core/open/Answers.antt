@@ -1,7 +1,7 @@
 -- The ports with a port more are the world with it, and a user of the node's server is counted.
 use Rattle.std.proofs.Common.{refl, sym, inl, inr, ap}
-use Rattle.std.specs.Prelude.{Result, is_ok}
-use Rattle.hurd_machine.proofs.Common.{Errno, Name, NodeState, home_in, is_home, shown, uses_server, world_from}
+use Rattle.std.specs.Prelude.{is_ok}
+use Rattle.hurd_machine.proofs.Common.{Name, home_in, is_one, shown, uses_server, world_from}
 use Rattle.std.proofs.lemmas.Result.{err_from_is_err_and}
 use Rattle.hurd_core.proofs.CoreLaws.{room-had, room-refused}
 use Rattle.hurd_core.proofs.RightLaws.{open-does}
@@ -31,7 +31,7 @@ add-requires-clause-fits g c =
     let N = shown g.S.Server.meaning c.self.inside.nodes in
     let H = c.self.inside.ports.state in
     let sites = c.self.inside.nodes.sites in
-    let more = λ (s : Name). inserted_counts N H _ c.args.task.0 (uses_server sites s) c.args.node c.args.ids c.args.parents c.args.modes _ (is_home s (home_in sites c.args.node)) (λ x. refl) (open-does N H c.args.task.0 c.args.node c.args.ids c.args.parents c.args.modes _ _ c.in_ok-port.ensures.ok) in
+    let more = λ (s : Name). inserted_counts N H _ c.args.task.0 (uses_server sites s) c.args.node c.args.ids c.args.parents c.args.modes _ (is_one s (home_in sites c.args.node)) (λ x. refl) (open-does N H c.args.task.0 c.args.node c.args.ids c.args.parents c.args.modes _ _ c.in_ok-port.ensures.ok) in
     rw c.home.ensures (user_fits _ _ sites H.tasks _ (home_in sites c.args.node) c.self.invariant c.reserve.ensures.entries more c.rights_are_few.ensures)
 
 pub invariant_of-self-2 : goal.invariant_of-self-2
@@ -39,7 +39,7 @@ invariant_of-self-2 g c =
     let N = shown g.S.Server.meaning c.self.inside.nodes in
     let H = c.self.inside.ports.state in
     let sites = c.self.inside.nodes.sites in
-    let more = λ (s : Name). inserted_counts N H _ c.args.task.0 (uses_server sites s) c.args.node c.args.ids c.args.parents c.args.modes _ (is_home s (home_in sites c.args.node)) (λ x. refl) (open-does N H c.args.task.0 c.args.node c.args.ids c.args.parents c.args.modes _ _ c.in_ok-port.ensures.ok) in
+    let more = λ (s : Name). inserted_counts N H _ c.args.task.0 (uses_server sites s) c.args.node c.args.ids c.args.parents c.args.modes _ (is_one s (home_in sites c.args.node)) (λ x. refl) (open-does N H c.args.task.0 c.args.node c.args.ids c.args.parents c.args.modes _ _ c.in_ok-port.ensures.ok) in
     user_counted _ _ _ sites H.tasks _ (home_in sites c.args.node) c.self.invariant c.reserve.ensures.entries more (rw c.home.ensures at c.add.ensures)
 
 pub returns : goal.returns

@@ -12,7 +12,7 @@ returns-in-Some g c =
     let m = f c.in-Some.server.now in
     let file = fin.get (shown f c.args.self.now).nodes c.args.node in
     c.can_link_in.ensures file c.attrs.ensures.all
-    ∙ ap (λ kin. link_of (keeps_tree m.kind) (space_of m) c.args.name.now kin (fin.get m.nodes c.args.dir) file) (c.are_same-kin.ensures ∙ ap₂ are_kin c.home-home.ensures c.home.ensures)
+    ∙ ap (λ kin. link_of (keeps_tree m.kind) (space_of m) c.args.name.now kin (fin.get m.nodes c.args.dir) file) (c.are_kin-kin.ensures ∙ ap₂ are_kin c.home-home.ensures c.home.ensures)
     ∙ sym (can_link-told _ _ c.boxes_hide_nothing.ensures _ _ _ _ (rw c.home-home.ensures at c.in-Some.ensures))
 
 pub returns-in-None : goal.returns-in-None

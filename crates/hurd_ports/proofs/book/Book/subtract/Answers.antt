@@ -3,15 +3,15 @@ use Rattle.hurd_ports.specs.Counts.{Besides, Opens, Servers, Uses}
 use Rattle.hurd_ports.proofs.CountLaws.{one_itself}
 use Rattle.hurd_ports.proofs.book.Book.subtract.Goals as goal
 
-pub lower-requires : goal.lower-requires
-lower-requires c =
+pub subtract-requires : goal.subtract-requires
+subtract-requires c =
     let name = c.in-Io.right.node in
     let counted = rw c.in-Io.is at (c.requires Uses name) in
     let one = one_itself name in
     omega arith
 
-pub lower-requires-in-Io : goal.lower-requires-in-Io
-lower-requires-in-Io c =
+pub subtract-requires-in-Io : goal.subtract-requires-in-Io
+subtract-requires-in-Io c =
     let name = c.in-Io.right.open_name in
     let counted = rw c.in-Io.is at (c.requires Opens name) in
     let one = one_itself name in
@@ -22,15 +22,15 @@ subtract_ways-requires c n =
     let counted = rw c.in-Io.is at (c.requires Besides n) in
     rw c.as_slice.ensures.is (omega arith)
 
-pub lower-requires-in-Control : goal.lower-requires-in-Control
-lower-requires-in-Control c =
+pub subtract-requires-in-Control : goal.subtract-requires-in-Control
+subtract-requires-in-Control c =
     let name = c.in-Control.server in
     let counted = rw c.in-Control.is at (c.requires Servers name) in
     let one = one_itself name in
     omega arith
 
-pub lower-requires-in-Start : goal.lower-requires-in-Start
-lower-requires-in-Start c =
+pub subtract-requires-in-Start : goal.subtract-requires-in-Start
+subtract-requires-in-Start c =
     let name = c.in-Start.node in
     let counted = rw c.in-Start.is at (c.requires Besides name) in
     let one = one_itself name in
