@@ -307,7 +307,7 @@ pub(crate) fn uid_of(alloc: Global, ids: &Ids) -> Result<Vec<u8>, AllocError>
 }
 
 /// Adds a mark and bytes behind a space, where there are any bytes.
-fn push_marked(words: &mut Vec<u8>, mark: &[u8], text: &[u8]) -> Result<(), AllocError>
+fn push_marked_text(words: &mut Vec<u8>, mark: &[u8], text: &[u8]) -> Result<(), AllocError>
     ensures { OnOk result (words.new.items ≡ words.old.items ++ marked_text mark.now text.now) }
 {
     if text.is_empty() {
@@ -324,7 +324,7 @@ pub(crate) fn program_text(alloc: Global, server: &ServerRow) -> Result<Vec<u8>,
 {
     let mut text = Vec::new(alloc);
     push_bytes(&mut text, server.program.as_slice())?;
-    push_marked(&mut text, server.text_mark(), server.text.as_slice())?;
+    push_marked_text(&mut text, server.text_mark(), server.text.as_slice())?;
     Ok(text)
 }
 

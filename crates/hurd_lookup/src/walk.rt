@@ -282,10 +282,10 @@ fn stepped<'a, S: Server>(
     core: &Core<S>,
     authority: Authority,
     request: Request,
-    here: &mut Here,
     path: &'a [u8],
     name: &'a [u8],
     rest: &'a [u8],
+    here: &mut Here,
 ) -> Result<Option<Outcome<'a>>, Errno>
     requires names { names_in path.now ≡ name.now ∷ names_in rest.now }
     requires here { IsHere (world_of S.meaning core.now) here.old }
@@ -326,7 +326,7 @@ pub(crate) fn walk<'a, S: Server>(
     let mut here = start;
     let mut rest = path;
     while let Some((name, after)) = first_name(rest) {
-        if let Some(outcome) = stepped(core, authority, request, &mut here, rest, name, after)? {
+        if let Some(outcome) = stepped(core, authority, request, rest, name, after, &mut here)? {
             return Ok(outcome);
         }
         rest = after;

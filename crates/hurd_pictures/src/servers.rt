@@ -43,7 +43,7 @@ fn push_targets(
 }
 
 /// Adds a mark and the first of some bytes behind a space, where there are any bytes.
-fn push_marked(text: &mut Vec<u8>, mark: &[u8], bytes: &[u8]) -> Result<(), AllocError>
+fn push_marked_label(text: &mut Vec<u8>, mark: &[u8], bytes: &[u8]) -> Result<(), AllocError>
     ensures { OnOk result (text.new.items ≡ text.old.items ++ marked_label mark.now bytes.now) }
 {
     if bytes.is_empty() {
@@ -59,7 +59,7 @@ fn push_program(text: &mut Vec<u8>, server: &ServerRow) -> Result<(), AllocError
     ensures { OnOk result (text.new.items ≡ text.old.items ++ program_text server.now) }
 {
     push_short(text, server.program.as_slice())?;
-    push_marked(text, server.text_mark(), server.text.as_slice())
+    push_marked_label(text, server.text_mark(), server.text.as_slice())
 }
 
 /// Adds what a server's box is called: by its words where they are seen, else by its program.
