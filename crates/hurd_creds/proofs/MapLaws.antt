@@ -53,7 +53,3 @@ module _ {A B : Type 0} (f : A → B) where
       go : (q : Name) → (q ≡ n) ⊎ (q ≢ n) → fin.get (map_values f (edit n g m)) q ≡ fin.get (map_values f m) q
       go q (inl e) = rw e (get-map_values (edit n g m) n ∙ ap (option_map f) (edit_here m n g) ∙ option_map-kept g kept (fin.get m n) ∙ sym (get-map_values m n))
       go q (inr apart) = get-map_values (edit n g m) q ∙ ap (option_map f) (edit_apart m n g q apart) ∙ sym (get-map_values m q)
-
-option_map-twice : {A B C : Type 0} (f : A → B) (g : B → C) (o : Option A) → option_map g (option_map f o) ≡ option_map (λ x. g (f x)) o
-option_map-twice f g None = refl
-option_map-twice f g (Some x) = refl

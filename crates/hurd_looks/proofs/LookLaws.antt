@@ -103,9 +103,6 @@ module _ (S : ℕ → Bool) (a b : View) where
   from_boot : (f : OtherNames) (start : Pairing) → start ≡ (boot_name, boot_name) ∷ [] → Agrees f start
   from_boot f start is = rw is (f.boot, tt)
 
-  pub other_count : (a.count ≡ b.count → ⊥) → IsTrue false ↔ AreAlike S a b
-  other_count apart = (λ bad. absurd (true≢false (sym bad)), λ alike. absurd (apart alike.2.count))
-
   module _ (start : Pairing) (is : start ≡ (boot_name, boot_name) ∷ []) where
     pub seats_differ : (met : Bool) (mid : Pairing) → met ≡ false → PairsFor Seats start met mid → IsTrue false ↔ AreAlike S a b
     seats_differ met mid not_met h =

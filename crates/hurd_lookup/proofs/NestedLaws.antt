@@ -25,7 +25,7 @@ use Rattle.hurd_lookup.specs.Legs.{CanStart}
 use Rattle.hurd_lookup.specs.Lent.{lent}
 use Rattle.hurd_lookup.specs.Lookup.{no_ids}
 use Rattle.hurd_lookup.specs.Resolve.{path_end}
-use Rattle.hurd_lookup.specs.Nested.{FindsAsleep, HasAims, aims_of, asleep, first_among, first_asleep, first_unstarted, lent_at, lent_by, most_asked, needed, or_needed, passed, says_aims, words_aims}
+use Rattle.hurd_lookup.specs.Nested.{HasAims, aims_of, asleep, first_among, first_asleep, first_unstarted, lent_at, lent_by, most_asked, needed, or_needed, passed, says_aims, words_aims}
 use Rattle.hurd_lookup.proofs.AlikeLaws.{Alike, ok_alike, err_alike}
 use Rattle.hurd_lookup.proofs.BeginLaws.{seen_begins}
 use Rattle.hurd_lookup.proofs.HeldLaws.{AnyIds, Anywhere, held_ground}
@@ -228,15 +228,6 @@ needed_has w ids (path ∷ paths) m is none = absurd (cc (none))
 
 -- as the code finds it
 
-pub passed_lacks : (r : Result Landing Errno) (e : Errno) → passed r ≡ Err e → e ≡ ENOMEM
-passed_lacks (Ok (Lands n)) e is = absurd (cc (is))
-passed_lacks (Ok (Sleeps n)) e is = absurd (cc (is))
-passed_lacks (Err f) e is = by (is_no_memory f) is
-  where
-    by : (b : Bool) → (let r : Result (Option Name) Errno = if b then Err ENOMEM else Ok None in r) ≡ Err e → e ≡ ENOMEM
-    by true k = let same : ENOMEM ≡ e = cc (k) in sym same
-    by false k = absurd (cc (k))
-
 -- what waits at the end of a path, by how the path ended
 pub passed_is : (w : World) (wanted r : Result Landing Errno) → MeetsOr {B = Landing} (Unit {0}) (λ l. l) wanted r → IfOk r (CanStart w) → (o : Option Name) → passed r ≡ Ok o → (asleep wanted ≡ o) × IfSome o (HasWords w)
 passed_is w wanted (Ok (Lands n)) found starts o is = let same : None ≡ o = cc (is) in subst (λ (p : Option Name). (asleep wanted ≡ p) × IfSome p (HasWords w)) same (ap asleep found, tt)
@@ -250,24 +241,11 @@ passed_is w wanted (Err e) found starts o is = by (is_no_memory e) refl is
         subst (λ (p : Option Name). (asleep wanted ≡ p) × IfSome p (HasWords w)) same
         (elim found [ inl refused ↦ ap asleep refused | inr lacks ↦ absurd (true≢false (sym (ap is_no_memory lacks.0) ∙ out)) ], tt)
 
--- behind one at whose end nothing waits, the others
-pub asleep_later : (w : World) (wanted : Result Landing Errno) (path : List ℕ) (paths : List (List ℕ)) (o : Option Name) (r : Result (Option Name) Errno) → asleep wanted ≡ None → FindsAsleep w paths o r
-    → FindsAsleep w (path ∷ paths) (option_or (asleep wanted) o) r
-asleep_later w wanted path paths o (Ok p) none found = (ap (λ (x : Option Name). option_or x o) none ∙ found.0, found.1)
-asleep_later w wanted path paths o (Err e) none lacks = (lacks.0, λ is. absurd (cc (is)))
-
-pub asleep_here : (w : World) (wanted : Result Landing Errno) (path : List ℕ) (paths : List (List ℕ)) (o : Option Name) (n : Name) → (asleep wanted ≡ Some n) × HasWords w n
-    → FindsAsleep w (path ∷ paths) (option_or (asleep wanted) o) (Ok (Some n))
-asleep_here w wanted path paths o n is = (ap (λ (x : Option Name). option_or x o) is.0, is.1)
-
 module _ (w : World) (ids : IdSets) (n : Name) where
   pub needed_gone : header_at w n ≡ None → needed w ids n ≡ None
   needed_gone gone =
       let none : words_at w n ≡ [] = words_from (node_at w n) ∙ ap words_told gone in
       ap (λ (ws : List (List ℕ)). first_asleep w (lent_at w ids n) (words_aims ws)) none ∙ ap (first_asleep w (lent_at w ids n)) aims_nothing
-
-  pub needed_there : (h : Header) → header_at w n ≡ Some h → needed w ids n ≡ first_asleep w (lent ids h.owner) (words_aims (words_at w n))
-  needed_there h is = ap (λ (o : Option Header). first_asleep w (lent_by ids o) (words_aims (words_at w n))) is
 
 -- from the one that was asked last, on
 module _ (w : World) (ids : IdSets) (n here : Name) (k : ℕ) (more : 0 < k) (is : first_among k w ids here ≡ first_unstarted w ids n) where

@@ -42,10 +42,6 @@ module _ (S : ℕ → Bool) where
   at_own [] t next own = absurd (cc)
   at_own (p ∷ rest) t next own = (p, rest, refl, ap S (some_is p.task t next) ∙ own)
 
-  pub at_none : (left : List Part) → next_task left ≡ None → IsAtOwn S false left
-  at_none [] none = refl
-  at_none (p ∷ rest) none = absurd (cc)
-
   -- what they do next was told: one moment passed, and what is left are those behind it
   pub record PassesOne (old new : Way) (o : Option (List ℕ)) : Type 0 where
     pub rest : List Moment

@@ -1,5 +1,5 @@
 -- What is said of a script.
-use Rattle.std.proofs.Common.{◌≡◌, ◌∙◌, ℕ, List, [], Option, Some, None, ap, codes, option_and_then, option_map, refl}
+use Rattle.std.proofs.Common.{◌≡◌, ◌∙◌, ℕ, List, Option, Some, ap, codes, option_and_then, option_map}
 use Rattle.hurd_dialogue.specs.Complaints.{complaint_at, complaint_by}
 use Rattle.hurd_script.specs.Flaws.{flaw_at, flaw_text}
 use Rattle.hurd_script.specs.Script.{bad}
@@ -9,10 +9,6 @@ use Rattle.hurd_run.specs.Scripts.{scripts}
 -- what is said where a script is bad at this line, if it is
 said_at : List ℕ → Option ℕ → List ℕ
 said_at text line = complaint_by (codes ": bad script: ") text line (option_map flaw_text (option_and_then (flaw_at text) line))
-
-pub good_said : (text : List ℕ) → bad text ≡ None → scripts.complaint text ≡ []
-unfolding said_at
-good_said text good = ap (said_at text) good
 
 pub bad_said : (text : List ℕ) (line : ℕ) (flaw : ScriptFlaw) → bad text ≡ Some line → flaw_at text line ≡ Some flaw
     → scripts.complaint text ≡ complaint_at (codes ": bad script: ") text line (flaw_text flaw)

@@ -79,13 +79,6 @@ turned_sound c p w x (Ok (progress.Waits waiting)) turn d same s = stop_sound (g
 turned_sound c p w x (Err (Refused e)) turn d same s = stop_sound (go-gives _ _ _) d.reaches s
 turned_sound c p w x (Err Memory) turn d same s = absurd (cc)
 
--- and what is noted stays right
-turned_stays : (c : CommandLine) (p : Prog Printed) (w x : State) (r : Result Progress Stop) (turn : Turn) → Reaches c.task p w progress_on r x → Some turn ≡ turn_of c r → NotesWhatIsTouched w x
-turned_stays c p w x (Ok (Ended printed)) turn d same = d.reaches.stays
-turned_stays c p w x (Ok (progress.Waits waiting)) turn d same = d.reaches.stays
-turned_stays c p w x (Err (Refused e)) turn d same = d.reaches.stays
-turned_stays c p w x (Err Memory) turn d same = absurd (cc)
-
 one_more : (k : ℕ) → k + 1 ≡ suc k
 one_more k = omega arith
 
@@ -205,11 +198,6 @@ pub told_sound : {E : Type 0} (c : CommandLine) (p : Prog Printed) (w x : State)
     → IfOk told (λ turn. Some turn ≡ turn_of c r) → Sound w.world → OnOk told (Sound x.world)
 told_sound c p w x r (Ok turn) d same s = turned_sound c p w x r turn d same s
 told_sound c p w x r (Err e) d same s = tt
-
-pub told_stays : {E : Type 0} (c : CommandLine) (p : Prog Printed) (w x : State) (r : Result Progress Stop) (told : Result Turn E) → Reaches c.task p w progress_on r x
-    → IfOk told (λ turn. Some turn ≡ turn_of c r) → OnOk told (NotesWhatIsTouched w x)
-told_stays c p w x r (Ok turn) d same = turned_stays c p w x r turn d same
-told_stays c p w x r (Err e) d same = tt
 
 -- and so it does where an answer was taken
 pub took_stays : {A : Type 0} {t : ℕ} {p : Prog A} {w x : State} (answer : Result A Errno) → DoesAll t p w (stopped answer) x → NotesWhatIsTouched w x

@@ -150,9 +150,6 @@ module _ (f : Name → Entries) (start es : Entries) (it : AllThatFollows f star
               goes of.0.0 m y (before of.0.0 (among_found of.0 (take k es) of.1)) of.2
         ]
 
-    pub follows_all : (n : Name) → is_found n es ≡ true → P n
-    follows_all n found = follows_up_to (length es) n (ap (is_found n) (take_all (length es) es (omega arith)) ∙ found)
-
 -- what the first round found begins the list
 pub plain_grown : (h : NodeState) (ts : List Task) (ids : IdSets) (tasks : List TaskId) (es : Entries) (all : FoundAll h ts ids tasks es) → (more : Entries) × (es ≡ all.plain ++ more)
 plain_grown h ts ids tasks es all =

@@ -9,9 +9,7 @@ use Rattle.hurd_trans_iface.specs.Arguments.{is_empty}
 use Rattle.hurd_trans_iface.specs.declared.begun.ServerKind.{ServerKind}
 use Rattle.hurd_trans_iface.specs.declared.begun.ServerKind.TheVariants as kind
 use Rattle.hurd_trans_iface.specs.Sayings.{Fits}
-use Rattle.hurd_small.specs.declared.fixed_kind.FixedKind.{FixedKind}
-use Rattle.hurd_small.specs.declared.fixed_kind.FixedKind.TheVariants as fixed
-use Rattle.hurd_small.specs.FixedKinds.{is_fixed, kind_of}
+use Rattle.hurd_small.specs.FixedKinds.{is_fixed}
 
 empty_short : (text : List ℕ) → is_empty text ≡ true → length text ≤ most_text
 empty_short [] h = omega arith
@@ -40,14 +38,3 @@ not_fixed kind.Symlink a b c d e f = absurd (d refl)
 not_fixed kind.Firmlink a b c d e f = absurd (e refl)
 not_fixed kind.Magic a b c d e f = absurd (f refl)
 not_fixed _ a b c d e f = refl
-
-kind_fixed : (k : FixedKind) → is_fixed (kind_of k) ≡ true
-kind_fixed fixed.Hello = refl
-kind_fixed fixed.Null = refl
-kind_fixed fixed.Zero = refl
-kind_fixed fixed.Symlink = refl
-kind_fixed fixed.Firmlink = refl
-kind_fixed fixed.Magic = refl
-
-pub kind_short : (k : FixedKind) (text : List ℕ) → Fits (kind_of k) text → length text ≤ most_text
-kind_short k text fits = fixed_short (kind_of k) text (kind_fixed k) fits

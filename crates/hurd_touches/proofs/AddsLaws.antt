@@ -40,10 +40,6 @@ pub adds_last : (x : SeenPart) (xs : List SeenPart) → Adds (λ p. p ≡ part_o
 adds_last x xs = record { kept = λ p on. still p x xs on; added = λ p e. subst (λ q. IsAmong q (map part_of (xs ++ x ∷ []))) (sym e) (last x xs) }
 
 module _ (P : Part → Type 0) where
-  -- any part
-  pub adds_any : (old : Noted) → Adds P old All
-  adds_any old = record { kept = λ p on. tt; added = λ p on. tt }
-
   -- nothing
   pub adds_none : (old : Noted) → ((p : Part) → P p → ⊥) → Adds P old old
   adds_none old none = record { kept = λ p on. on; added = λ p on. absurd (none p on) }
@@ -51,10 +47,6 @@ module _ (P : Part → Type 0) where
   -- no more than is added
   pub adds_less : (Q : Part → Type 0) (old new : Noted) → Adds Q old new → ((p : Part) → P p → Q p) → Adds P old new
   adds_less Q old new a less = record { kept = a.kept; added = λ p on. a.added p (less p on) }
-
-  -- one after the other
-  pub adds_both : (Q : Part → Type 0) (old mid new : Noted) → Adds P old mid → Adds Q mid new → Adds (λ p. P p ⊎ Q p) old new
-  adds_both Q old mid new a b = record { kept = λ p on. b.kept p (a.kept p on); added = λ p. λ on. elim on [ inl x ↦ b.kept p (a.added p x) | inr x ↦ b.added p x ] }
 
 -- where any part is noted, so is each call
 pub all_notes : (w : World) (t : ℕ) (c : Call) (noted : Noted) → is_all noted ≡ true → Notes w t c noted noted

@@ -47,14 +47,6 @@ row_is_got (e ∷ es) n = go (same_name n e.0) refl (row_is_got es n)
     go true is rest = rw is refl
     go false is rest = rw is rest
 
-not_both : (n k m : Name) → same_name n m ≡ true → same_name k m ≡ false → same_name n k ≡ false
-not_both n k m is apart = go (same_name n k) refl
-  where
-    go : (b : Bool) → same_name n k ≡ b → same_name n k ≡ false
-    go false e = e
-    go true e =
-        absurd (true≢false (sym (ap (λ (x : Name). same_name x m) (sym (equal_if_same n k e)) ∙ is) ∙ apart))
-
 -- the row of a name goes behind the others, unless it is there
 put_row : (w : World) (v : Sight) (n : Name) (ms : List Name) → insert_entry same_name (rows_for w v ms) n (row_of w v n) ≡ rows_for w v (named_more n ms)
 put_row w v n [] = refl
