@@ -69,6 +69,7 @@ same_or_apart a b = go (same_name a b) refl
     go true e = inl (equal_if_same a b e)
     go false e = inr (apart_if_not_same a b e)
 
+-- which of two names stands first doesn't matter
 pub name_turned : (a b : Name) → same_name a b ≡ same_name b a
 name_turned a b = elim (same_or_apart a b) [
   | inl e ↦ rw e refl

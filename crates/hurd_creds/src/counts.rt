@@ -35,7 +35,7 @@ pub fn add(counts: &mut Counts, name: Name, more: u128)
     *counts.entry(name).unwrap().or_insert(0) += more;
 }
 
-/// Counts the name so many times less, and keeps nothing of it if it is counted no more; then it answers it. One search. Takes no room.
+/// Counts the name so many times less. If it is counted no more, nothing of it is kept, and it is answered. One search. Takes no room.
 #[inline(always)]
 pub fn subtract(counts: &mut Counts, name: Name, less: u128) -> Option<Name>
     requires { less ≤ counted counts.old.entries name }
