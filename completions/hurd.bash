@@ -5,10 +5,10 @@
 _hurd_takes() {
     case $1 in
         run) operands=(FILE) options=(--calls --json -h --help) ;;
-        learns) operands=(WHO FILE) options=(--calls --how -h --help) ;;
+        learn) operands=(WHO FILE) options=(--calls --how -h --help) ;;
         see) operands=(WHO FILE) options=(--calls -h --help) ;;
         draw) operands=(FILE) options=(--as --calls -h --help) ;;
-        tell) operands=(WHO FILE FILE) options=(-h --help) ;;
+        compare) operands=(WHO FILE FILE) options=(-h --help) ;;
         sample) operands=() options=(--calls -h --help) ;;
         help) operands=(VERB) options=() ;;
         *) operands=() options=() ;;
@@ -17,7 +17,7 @@ _hurd_takes() {
 
 # Completes a word.
 _hurd() {
-    local word=${COMP_WORDS[COMP_CWORD]} verbs=(run learns see draw tell sample help) operands options at place=0 is_behind=
+    local word=${COMP_WORDS[COMP_CWORD]} verbs=(run learn see draw compare sample help) operands options at place=0 is_after=
     COMPREPLY=()
     if [ "$COMP_CWORD" = 1 ]; then
         operands=(VERB) options=(-h --help -V --version)
@@ -25,13 +25,13 @@ _hurd() {
         _hurd_takes "${COMP_WORDS[1]}"
     fi
     for ((at = 2; at < COMP_CWORD; at++)); do
-        if [ -n "$is_behind" ] || [[ ${COMP_WORDS[at]} != -?* ]]; then
+        if [ -n "$is_after" ] || [[ ${COMP_WORDS[at]} != -?* ]]; then
             place=$((place + 1))
         elif [ "${COMP_WORDS[at]}" = -- ]; then
-            is_behind=1
+            is_after=1
         fi
     done
-    if [ -z "$is_behind" ] && [[ $word == -* ]]; then
+    if [ -z "$is_after" ] && [[ $word == -* ]]; then
         mapfile -t COMPREPLY < <(compgen -W "${options[*]}" -- "$word")
         return
     fi

@@ -1,7 +1,7 @@
 #!/usr/bin/env python3
-"""assemble.py OUT.html MODULE.wasm: the page in one file, which opens from a disk, without a network.
+"""assemble.py OUT.html MODULE.wasm: makes the page, one file that opens from a disk, without a network.
 
-Beside this file lie the page's parts; the examples and their first lines come from examples/, the sum is that of sources.py.
+The parts of the page are in this folder. The examples and their first lines come from examples/, the checksum from sources.py.
 """
 import base64
 import hashlib
@@ -18,13 +18,13 @@ SCRIPTS = ["read.js", "machine.js", "tree.js", "lecture.js", "page.js"]
 FIRST = ["learned-secret.hurd", "learned-server.hurd", "learned-size.hurd", "learned-text.hurd", "learned-target.hurd", "strangers-file.hurd"]
 TITLES = {
     "welcome.hurd": "The first script: root writes a text, and alice reads it.",
-    "learned-secret.hurd": "Bob keeps a diary in his home, and closes that. What does alice learn of it?",
-    "learned-server.hurd": "Bob puts servers behind his nodes, and starts one of alice's. What does she learn, and does his chmod close his home?",
-    "learned-size.hurd": "Bob's file is closed, but stands in an open directory. What does alice learn of what he writes?",
-    "learned-name.hurd": "Nobody may list a letter box, and each may put something in. Is the name of a letter a secret?",
-    "learned-emptiness.hurd": "A directory that alice may not look into stands in one of hers. What does she learn of what is in it?",
+    "learned-secret.hurd": "Bob keeps a diary in his home, and closes his home. What does alice learn about it?",
+    "learned-server.hurd": "Bob attaches servers to his nodes, and starts one of alice's. What does she learn, and does his chmod close his home?",
+    "learned-size.hurd": "Bob's file is closed, but is in an open directory. What does alice learn about what he writes?",
+    "learned-name.hurd": "Nobody may list a letter box, but everybody may put something in. Is the name of a letter a secret?",
+    "learned-emptiness.hurd": "A directory that alice may not look into is in one of hers. What does she learn about its contents?",
     "learned-full-tree.hurd": "Bob stores a letter where alice may not look, in a tree with a limit. How long is it?",
-    "learned-view.hurd": "All that alice sees, before bob closes his home and behind it.",
+    "learned-view.hurd": "Everything that alice sees, before and after bob closes his home.",
 }
 
 
@@ -44,7 +44,7 @@ def users(script):
 
 
 def examples():
-    """Each example: its name, what it shows, and through whose eyes one looks at first."""
+    """Each example: its name, what it shows, and who is chosen at first."""
     names = sorted(name for name in os.listdir(os.path.join(TOP, "examples")) if name.endswith((".hurd", ".calls")))
     found = []
     for name in FIRST + [name for name in names if name not in FIRST]:
@@ -56,7 +56,7 @@ def examples():
 
 
 def block(kind, name, content):
-    """Data in the page. No script of the page is read from it as code, and nothing in it ends it."""
+    """Data in the page. The page runs none of it as code, and nothing in it ends the block."""
     return f'<script type="{kind}" id="{name}">{content.replace("<", chr(92) + "u003c") if kind == "application/json" else content}</script>\n'
 
 
@@ -87,7 +87,7 @@ def main():
         "<!-- blocks -->": blocks + f"<script>{script}</script>",
     }.items():
         if page.count(mark) != 1:
-            sys.exit(f"index.html has {page.count(mark)} times {mark}")
+            sys.exit(f"index.html has {mark} {page.count(mark)} times")
         page = page.replace(mark, content)
     if "</script" in re.sub(r"(?s)<script.*?</script>", "", page):
         sys.exit("a block of the page ends too early")

@@ -1,19 +1,19 @@
-/* The memory of a module in a web page: what the kit's own heap is over malloc.
+/* The heap of a module in a web page, like the kit's own heap over malloc.
 
-   Blocks have 16 * 2^k bytes, each behind a head of 16 that has its k. Freed ones wait in a list for each k. Past `most` pages there is no memory, and the
-   program is told so: it then prints what it is proved to print. */
+   A block has 16 * 2^k bytes, after a head of 16 bytes that has its k. Freed blocks are in a list for each k. A request beyond `most` pages fails; the program
+   then prints what it is proved to print. */
 typedef unsigned long long u64;
 typedef unsigned long address; /* as wide as a pointer */
 typedef unsigned char u8;
 
-/* whether there is memory, and where; else a place that nobody reads */
+/* whether there is memory, and where; otherwise a place that nobody reads */
 struct tried {
     u64 ok, place;
 };
 
 struct head {
     u64 order;
-    struct head *next; /* in the list of freed ones */
+    struct head *next; /* in the list of freed blocks */
 };
 
 enum { ORDERS = 28, PAGE = 16, LEAST_PAGES = 16 };
@@ -23,7 +23,7 @@ static u64 most = 4096; /* pages of 64 KiB: 256 MiB */
 static u64 at, end;
 static struct head *freed[ORDERS];
 static u8 nothing;
-static u64 requests, refused; /* how many there were, and which one is refused, if one is */
+static u64 requests, refused; /* how many there were, and which one is refused, if any */
 
 static u64 order_of(u64 bytes) {
     u64 order = 0;
@@ -31,7 +31,7 @@ static u64 order_of(u64 bytes) {
     return order;
 }
 
-/* whether `bytes` more are there behind all blocks: memory grows where there is room for that */
+/* whether there are `bytes` more after all blocks; memory grows if it can */
 static int grows(u64 bytes) {
     if (!at) {
         at = ((u64)(address)&__heap_base + 15) & ~(u64)15;
@@ -62,7 +62,7 @@ static void *taken(u64 bytes) {
 
 static struct head *head_of(void *place) { return (struct head *)((u8 *)place - sizeof(u64) * 2); }
 
-static struct tried told(void *place) { return (struct tried){place != 0, (address)(place ? place : &nothing)}; }
+static struct tried tried_at(void *place) { return (struct tried){place != 0, (address)(place ? place : &nothing)}; }
 
 void give(void *place) {
     struct head *block = head_of(place);
@@ -73,26 +73,26 @@ void give(void *place) {
 /* no program asks for an alignment above 16 */
 static int is_refused(u64 align) { return ++requests == refused || align > 16; }
 
-struct tried rattle_alloc(u64 bytes, u64 align) { return told(is_refused(align) ? 0 : taken(bytes)); }
+struct tried rattle_alloc(u64 bytes, u64 align) { return tried_at(is_refused(align) ? 0 : taken(bytes)); }
 
 struct tried rattle_realloc(void *place, u64 kept, u64 bytes, u64 align) {
-    if (is_refused(align)) return told(0);
-    if (bytes <= (u64)16 << head_of(place)->order) return told(place);
+    if (is_refused(align)) return tried_at(0);
+    if (bytes <= (u64)16 << head_of(place)->order) return tried_at(place);
     void *more = taken(bytes);
-    if (!more) return told(0);
+    if (!more) return tried_at(0);
     __builtin_memcpy(more, place, kept < bytes ? kept : bytes);
     give(place);
-    return told(more);
+    return tried_at(more);
 }
 
 void rattle_dealloc(void *place) { give(place); }
 
 #define EXPORT(name) __attribute__((export_name(name)))
 
-/* for tests of want of memory: fewer pages; the request that is refused; and how many there were */
+/* for tests without memory: fewer pages, the request that is refused, and how many there were */
 EXPORT("limit") void limit(u64 pages) { most = pages; }
 EXPORT("refuse") void refuse(u64 which) { refused = which; }
 EXPORT("requested") u64 requested(void) { return requests; }
 
-/* room for the page, which puts a text in; none is 0 */
+/* room for a text that the page puts in; 0 if there is none */
 EXPORT("room") u64 room(u64 bytes) { return (address)taken(bytes); }

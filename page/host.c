@@ -1,5 +1,5 @@
-/* What a program of this repository asks of its system, in a web page: standard input and its words are given beforehand, standard output and standard error
-   are kept, each by itself, and nothing else is there. */
+/* What a program of this repository asks of its system, in a web page. The page gives standard input and the arguments beforehand. Standard output and
+   standard error are kept, each by itself. There is nothing else. */
 typedef unsigned long long u64;
 typedef long long i64;
 typedef unsigned long address;
@@ -26,7 +26,7 @@ extern void give(void *);
 static struct text in;
 static struct text words[MOST_WORDS] = {{(const u8 *)"hurd", 4}}; /* the program's name first */
 static u64 word_count = 1;
-static u8 first_errors[FIRST_ERRORS]; /* so that want of memory can be told without any */
+static u8 first_errors[FIRST_ERRORS]; /* so that the program can report that memory ran out */
 static struct kept out, err = {first_errors, 0, FIRST_ERRORS};
 static int last_error;
 
@@ -36,7 +36,7 @@ EXPORT("input") void input(u64 text, u64 length) {
     in = (struct text){(const u8 *)(address)text, length};
 }
 
-/* one word more */
+/* adds an argument */
 EXPORT("word") void word(u64 text, u64 length) {
     if (word_count == MOST_WORDS) __builtin_trap();
     words[word_count++] = (struct text){(const u8 *)(address)text, length};
@@ -62,7 +62,7 @@ i64 read(int from, u8 *to, u64 most) {
     return (i64)count;
 }
 
-/* whether so many bytes more can be kept */
+/* whether `more` bytes can be added */
 static int keeps(struct kept *kept, u64 more) {
     if (kept->room - kept->length >= more) return 1;
     u64 wanted = 2 * kept->room + more + 4096;
@@ -90,7 +90,7 @@ int rattle_errno(void) { return last_error; }
 void rattle_set_errno(int error) { last_error = error; }
 u64 rattle_arg_count(void) { return word_count; }
 
-/* the length of a word, which is copied as far as there is room: -1 where there is no such word, -2 where there was not room for all of it */
+/* copies an argument as far as there is room, and returns its length: -1 if there is no such argument, -2 if it does not fit */
 i64 rattle_arg(u64 which, u8 *to, u64 most) {
     if (which >= word_count) return -1;
     u64 length = words[which].length, count = length < most ? length : most;
@@ -98,7 +98,7 @@ i64 rattle_arg(u64 which, u8 *to, u64 most) {
     return length <= most ? (i64)length : -2;
 }
 
-/* a program asks at its start which processor it runs on: no instruction of x86-64 is left here */
+/* at its start, a program asks which processor it runs on; no x86-64 instruction is left here */
 struct features {
     unsigned bits[8];
 };
@@ -106,7 +106,7 @@ static const struct features all = {{-1, -1, -1, -1, -1, -1, -1, -1}};
 const struct features *__x86_get_cpuid_feature_leaf(unsigned leaf) { return &all; }
 u64 __sysv_signal(int number, u64 handler) { return 0; }
 
-/* numbers of 128 bits, for which WebAssembly has no instructions */
+/* 128-bit numbers: WebAssembly has no instructions for them */
 
 u128 __multi3(u128 a, u128 b) {
     u64 x = (u64)a, y = (u64)b, mask = 0xffffffff;

@@ -1,4 +1,4 @@
-// The program, run in a worker: whatever a script does, the page stays alive, and a run can be stopped.
+// The program, run in a worker: whatever a script does, the page keeps responding, and a run can be stopped.
 "use strict";
 const Machine = {
   worker: null,
@@ -34,8 +34,8 @@ const Machine = {
     });
   },
 
-  // ends runs of which nobody wants to know any more, where they are long
-  give_up() { if (this.waiting.size && Date.now() - this.began > 500) this.stop("another was begun"); },
+  // ends runs whose results nobody needs any more, if they take long
+  give_up() { if (this.waiting.size && Date.now() - this.began > 500) this.stop("another run began"); },
 
   // ends all runs; the next one begins with a new worker
   stop(why) {

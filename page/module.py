@@ -1,8 +1,8 @@
 #!/usr/bin/env python3
-"""module.py PROGRAM OUT.bc: the LLVM module that rattle makes of a proved program of this checkout.
+"""module.py PROGRAM OUT.bc: keeps the LLVM module that rattle makes of a proved program of this checkout.
 
-`rattle build` is given the folder of a clang. The clang of the folder that is made here keeps the module that it is given, and then compiles it as the kit's
-own does. Nothing else of the kit is changed, and nothing is made unless the program is proved.
+`rattle build` takes the folder of a clang. The clang in the folder that this script makes keeps its input, and then compiles it as the kit's own does. Nothing
+else of the kit is changed, and nothing is made unless the program is proved.
 """
 import functools
 import os
@@ -24,7 +24,7 @@ def kit():
 
 
 def keeping(at, room):
-    """A toolchain whose clang keeps what it is given."""
+    """A toolchain whose clang keeps its input."""
     os.makedirs(f"{room}/bin")
     os.symlink(f"{at}/toolchain/lib", f"{room}/lib")
     for name in os.listdir(f"{at}/toolchain/bin"):
@@ -41,7 +41,7 @@ def main():
     sys.path.insert(0, f"{at}/bin")
     import rtlib
 
-    # (a library's files are read once, and not once for each way that leads to it)
+    # reads the files of a library once, not once for each way that leads to it
     rtlib.Crate.stamp = functools.cache(rtlib.Crate.stamp)
     os.chdir(f"{TOP}/crates/{name}")
     crate = rtlib.Crate(os.getcwd(), TOP, {}, name=None)

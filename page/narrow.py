@@ -1,9 +1,9 @@
 #!/usr/bin/env python3
 """narrow.py IN.ll OUT.ll: a module whose pointers take 8 bytes, for a machine whose pointers take 4.
 
-Behind each pointer in a constant, and behind each that is stored, 4 bytes of zero are written. So memory holds what it would on a machine of 64 bits whose
-addresses are below 2^32. All else in such a module is by byte offsets (`getelementptr i8`), with no `inttoptr` or `ptrtoint`, and few `ptrtoaddr`. It stops at
-what isn't so, and at each form that it doesn't know.
+It writes 4 bytes of zero after each pointer in a constant, and after each pointer that is stored. So memory holds what it would on a 64-bit machine whose
+addresses are below 2^32. Everything else in such a module uses byte offsets (`getelementptr i8`), with no `inttoptr` or `ptrtoint`, and few `ptrtoaddr`. The
+program stops at anything else, and at each form that it doesn't know.
 """
 import re
 import sys
@@ -24,7 +24,7 @@ def refuse(why, line):
 
 
 def pieces(text):
-    """What stands between the commas of a list, at its own level."""
+    """The parts between the commas of a list, at its own level."""
     found, depth, start, is_quoted = [], 0, 0, False
     for at, letter in enumerate(text):
         if letter == '"':
@@ -52,7 +52,7 @@ def constant(line):
 
 
 def pair(found, line):
-    """A pair with a pointer is loaded as two: the second stands at 8, where either has 8 bytes, and behind a pointer too."""
+    """A pair with a pointer is loaded as two: the second is at 8 if either has 8 bytes, and also after a pointer."""
     name, first, second, at = found.groups()
     if second not in ("ptr", "i64") and first != "ptr":
         refuse("a pair", line)
@@ -80,7 +80,7 @@ class Narrow:
         return line
 
     def move(self, line):
-        """A length of 64 bits, of memset and memmove, is cut to 32: no block is longer than memory."""
+        """A 64-bit length, of memset and memmove, is cut to 32 bits: no block is longer than memory."""
         found = MOVE.match(line)
         if not found:
             return line

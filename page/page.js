@@ -1,4 +1,4 @@
-// The page: a script, who looks, what is told and learned behind each command, and the tree as it then is. All that is shown is read from what the program prints.
+// The page: a script, the chosen users, the reply and the lessons after each command, and the tree at that point. Everything shown is read from what the program prints.
 "use strict";
 const $ = id => document.getElementById(id);
 const element = (tag, kind, text) => { const made = document.createElement(tag); if (kind) made.className = kind; if (text !== undefined) made.textContent = text; return made; };
@@ -13,7 +13,7 @@ const Page = {
   later: 0,
 
   is_list: () => $("sort").value === "list",
-  // the program, over a text, through the eyes of some: what they learn by it, or see at its end
+  // runs the program over a text for the chosen ones: what they learn from it, or see at its end
   run: (verb, text, who) => Machine.run(text, [verb, Page.is_list() ? "calls" : "script", who]),
 
   // lines up to a command
@@ -27,7 +27,7 @@ const Page = {
     this.slide(at, commands);
     document.body.dataset.ready = "no";
     const slow = setTimeout(() => { if (turn === this.turn) { this.say("running \u2026"); $("stop").hidden = false; } }, 150);
-    const whole = await this.run("learns", text, who);
+    const whole = await this.run("learn", text, who);
     const upto = at && whole.status === 0 ? this.cut(text, commands, at) : null;
     const seen = upto && turn === this.turn ? await this.run("see", upto, who) : null;
     const all = upto && turn === this.turn ? await this.run("see", upto, everyone) : null;
@@ -42,12 +42,12 @@ const Page = {
     const views = run => run && run.status === 0 ? Read.seen(Read.text(run.bytes)) : [];
     this.draw(views(all), views(seen), users);
     this.sees(views(seen), who);
-    if (gone.length) this.say(`${this.is_list() ? "Task " : ""}${this.short(Read.shown(gone.join(", ")), 60)} ${gone.length > 1 ? "aren't" : "isn't"} in the ${this.is_list() ? "list" : "script"}.`, true);
+    if (gone.length) this.say(`${this.is_list() ? "Task " : ""}${this.short(Read.shown(gone.join(", ")), 60)} ${gone.length > 1 ? "aren't" : "isn't"} in the ${this.is_list() ? "call list" : "script"}.`, true);
     document.body.dataset.ready = "yes";
     this.remember();
   },
 
-  // the address says what is shown, so that it can be opened again; a long script is put there by the button alone
+  // the address says what is shown, so that it can be opened again; only the button puts a long script there
   remember() {
     clearTimeout(this.later);
     if ($("lecture").hidden && $("text").value.length < 20000) this.later = setTimeout(() => history.replaceState(null, "", this.address()), 500);
@@ -57,7 +57,7 @@ const Page = {
 
   say(text, is_bad) { $("status").textContent = text; $("status").className = is_bad ? "bad" : ""; },
 
-  // whether the script ran; if not, why, at its line
+  // whether the script ran; if not, shows why, at its line
   fault(run, text) {
     const said = Read.complaint(Read.text(run.errors)), why = run.trap ? `The run ended: ${run.trap}.` : run.status ? said.why || `The run ended with status ${run.status}.` : "";
     $("fault").hidden = !why;
@@ -67,11 +67,11 @@ const Page = {
     this.mark(text, [], 0, said.at);
     if (said.at >= 0) $("fault").append(element("br"), element("code", "", this.short(Read.shown(text.split("\n")[said.at] || ""), 200)));
     if (run.status === 1) this.slide(0, []);
-    for (const id of ["told", "sees", "picture"]) $(id).replaceChildren(element("p", "sum", run.status === 1 ? "Nothing was run." : "Nothing is shown of a run that did not end."));
+    for (const id of ["told", "sees", "picture"]) $(id).replaceChildren(element("p", "sum", run.status === 1 ? "Nothing was run." : "The run did not end, so nothing of it is shown."));
     return false;
   },
 
-  // a button for each; answers who was chosen and isn't there
+  // a button for each user; returns the chosen ones who are not in the script
   chips(users) {
     const gone = [...this.who].filter(name => !users.has(name));
     for (const name of gone) this.who.delete(name);
@@ -98,12 +98,12 @@ const Page = {
     $("at").disabled = !commands.length;
     $("back").disabled = at <= 0;
     $("on").disabled = at >= commands.length;
-    const words = at ? `behind ${at} of ${commands.length}: ${commands[at - 1].who}${this.is_list() ? "" : "$"} ${commands[at - 1].text}` : "before the first command";
+    const words = at ? `after ${at} of ${commands.length}: ${commands[at - 1].who}${this.is_list() ? "" : "$"} ${commands[at - 1].text}` : "before the first command";
     $("place").textContent = words;
     $("at").setAttribute("aria-valuetext", words);
   },
 
-  // each line of the script under the text: the command behind which one looks, those that come later, and a bad line
+  // each line of the script, under the text: the current command, the later ones, and a bad line
   mark(text, commands, at, bad) {
     const now = at && commands[at - 1] ? commands[at - 1].at : -1, later = commands[at] && bad < 0 ? commands[at].at : Infinity;
     $("marks").replaceChildren(...text.split("\n").slice(0, 5000).map((line, k) => element("b", k === bad ? "bad" : k === now ? "now" : k >= later ? "later" : "", line.slice(0, 400) || " ")));
@@ -119,17 +119,21 @@ const Page = {
 
   scroll() { $("marks").scrollTop = $("text").scrollTop; $("marks").scrollLeft = $("text").scrollLeft; },
 
-  // a line that is told
-  line: text => element("span", "line" + (/^(E[A-Z]+|  (Refused|Back) E[A-Z]+)$/.test(text) ? " error" : ""), text || " "),
+  // a line of a reply, with its mark: it tells a refusal from a text that reads like one, also without colour
+  line({ mark, text, is_refused }) {
+    const made = element("span", "line" + (is_refused ? " refused" : mark === "\\" ? " unended" : ""));
+    made.append(element("span", "mark", mark + " "), text);
+    return made;
+  },
 
   told({ paragraphs, last }, commands, at) {
     const list = element("ol");
-    paragraphs.forEach(({ part, learned }, k) => {
+    paragraphs.forEach(({ reply, learned }, k) => {
       const item = element("li", "part" + (commands[k] && this.who.has(commands[k].who) ? " own" : "") + (k + 1 === at ? " now" : ""));
-      const button = element("button", "command", part[0]);
+      const button = element("button", "command", reply.command);
       if (k + 1 === at) button.setAttribute("aria-current", "step");
       item.onclick = () => this.go(k + 1);
-      item.append(button, ...part.slice(1).map(line => this.line(line)));
+      item.append(button, ...reply.lines.map(line => this.line(line)));
       item.append(...learned.map(line => element("span", "learned", line)));
       list.append(item);
     });
@@ -143,9 +147,14 @@ const Page = {
     $("picture").replaceChildren(Tree.draw(Read.rows(all), Read.rows(seen), names) || element("p", "", "Nothing has been done yet."));
   },
 
+  sees_caption(who) {
+    const names = Read.plain(who).replace(/,/g, ", ");
+    return `Everything that ${this.is_list() ? who.includes(",") ? "tasks " : "task " : ""}${names} can see`;
+  },
+
   sees(seen, who) {
     const table = element("table"), body = element("tbody");
-    table.append(element("caption", "", seen.length ? `All that ${this.is_list() ? "task " : ""}${Read.plain(who)} can see now` : "Nothing is looked at before the first command."), body);
+    table.append(element("caption", "", seen.length ? this.sees_caption(who) : "Nothing is shown before the first command."), body);
     for (const [place, ...parts] of seen) {
       const row = element("tr"), head = element("th", "", place);
       head.scope = "row";
@@ -168,7 +177,7 @@ const Page = {
   sorted() {
     $("commands").textContent = this.help[$("sort").value];
     $("keep").disabled = this.is_list();
-    $("text").setAttribute("aria-label", this.is_list() ? "the list, a call a line" : "the script, a command a line");
+    $("text").setAttribute("aria-label", this.is_list() ? "the call list, one call per line" : "the script, one command per line");
   },
 
   open(text, sort, who, at, about) {
@@ -189,7 +198,7 @@ const Page = {
     return this.open(found.text, found.sort, found.who, found.at, found.question);
   },
 
-  // what the address says behind `#`: an example or a whole script, who looks, and behind which command
+  // what follows `#` in the address: an example or a whole script, the chosen ones, and after which command
 
   pack: text => btoa(Array.from(Machine.encoder.encode(text), byte => String.fromCharCode(byte)).join("")).replace(/\+/g, "-").replace(/\//g, "_").replace(/=+$/, ""),
   unpack: text => new TextDecoder("utf-8", { fatal: true }).decode(Machine.bytes(text.replace(/-/g, "+").replace(/_/g, "/"))),
@@ -207,7 +216,7 @@ const Page = {
     const words = new URLSearchParams(location.hash.slice(1)), who = words.has("who") ? words.get("who").split(",") : undefined, at = words.has("at") ? Math.max(0, Math.floor(Number(words.get("at")) || 0)) : undefined;
     if (words.has("lecture")) return Lecture.open(Math.floor(Number(words.get("lecture")) || 0));
     for (const sort of ["script", "list"]) if (words.has(sort)) {
-      try { return this.open(this.unpack(words.get(sort)), sort, who, at, "A script from the address of this page."); } catch (fault) { return this.pick(this.examples[0].file).then(() => this.say("The address has no whole script: an example is shown.", true)); }
+      try { return this.open(this.unpack(words.get(sort)), sort, who, at, "A script from the address of this page."); } catch (fault) { return this.pick(this.examples[0].file).then(() => this.say("The script in the address is incomplete, so an example is shown.", true)); }
     }
     const found = this.examples.find(example => example.file === words.get("example")) || this.examples[0];
     $("example").value = found.file;
@@ -217,7 +226,7 @@ const Page = {
   begin() {
     for (const sort of ["script", "list"]) {
       const group = element("optgroup");
-      group.label = sort === "script" ? "Scripts of users' commands" : "Lists of calls";
+      group.label = sort === "script" ? "Scripts of users' commands" : "Call lists";
       group.append(...this.examples.filter(example => example.sort === sort).map(example => { const option = element("option", "", example.title); option.value = example.file; return option; }));
       $("example").append(group);
     }
@@ -250,32 +259,32 @@ const Page = {
       if (event.key === "k" && !$("back").disabled) $("back").click();
     });
     window.onhashchange = () => this.from_address();
-    if (typeof WebAssembly === "undefined" || typeof Worker === "undefined") { this.say("This browser can't run the program: it has no WebAssembly, or no workers.", true); return; }
-    $("made").textContent = "Made of sources with the sum " + document.querySelector("meta[name=sources]").content.slice(0, 16) + ".";
+    if (typeof WebAssembly === "undefined" || typeof Worker === "undefined") { this.say("This browser can't run the program: it lacks WebAssembly or workers.", true); return; }
+    $("made").textContent = "Built from sources with the checksum " + document.querySelector("meta[name=sources]").content.slice(0, 16) + ".";
     Lecture.begin();
     Beside.begin();
     this.from_address();
   },
 };
 
-// Two scripts side by side: the one that was kept, the first, and the one in the editor, the second. What those who look see and are told otherwise is what
-// the program reports.
+// Two scripts side by side: the first is the one that was kept, the second is the one in the editor. The program reports whether the chosen ones can tell
+// them apart.
 const Beside = {
   pairs: [
-    ["secret-told.hurd", "secret-told-otherwise.hurd", "Bob writes one word or another, and opens the file."],
-    ["secret-kept-one.hurd", "secret-kept-two.hurd", "Bob writes one word or another, and closes the file."],
-    ["unseen-one.hurd", "unseen-two.hurd", "Bob does one thing or another where alice may not look."],
+    ["secret-told.hurd", "secret-told-otherwise.hurd", "Bob writes one of two words, and opens the file."],
+    ["secret-kept-one.hurd", "secret-kept-two.hurd", "Bob writes one of two words, and closes the file."],
+    ["unseen-one.hurd", "unseen-two.hurd", "Bob does one of two things in a place that alice may not look at."],
     ["started-by-alice.hurd", "started-by-bob.hurd", "Alice or bob is the first to read the text of a server."],
   ],
   first: null,
   last: { asked: "", run: null },
   drawn: null,
 
-  // the report on both, if a script is kept; what was asked just before isn't asked again
+  // the report on both, if a script is kept; the same pair is not compared twice in a row
   async run(text, who) {
     if (!this.first || Page.is_list()) return null;
     const asked = JSON.stringify([this.first.text, text, who]);
-    if (this.last.asked !== asked || this.last.run.trap) this.last = { asked, is_same: text === this.first.text, run: await Machine.run(text, ["tell", this.first.text, who]) };
+    if (this.last.asked !== asked || this.last.run.trap) this.last = { asked, is_same: text === this.first.text, run: await Machine.run(text, ["compare", this.first.text, who]) };
     return this.last.run;
   },
 
@@ -313,7 +322,7 @@ const Beside = {
     if (run && run === this.drawn) return;
     this.drawn = run;
     if (run) return run.status === 0 || run.status === 3 ? this.report(run, Read.report(Read.text(run.bytes))) : this.no_report(run);
-    this.verdict("", Page.is_list() ? "Lists of calls are no pair" : "", Page.is_list() ? "This tab is for scripts of users\u2019 commands." : "");
+    this.verdict("", Page.is_list() ? "Call lists cannot be compared" : "", Page.is_list() ? "This tab compares scripts of users\u2019 commands." : "");
     $("report").replaceChildren();
   },
 
@@ -323,7 +332,7 @@ const Beside = {
     $("verdict").replaceChildren(...(head ? [element("strong", "", head), " "] : []), ...(says ? [this.sentence(says)] : []));
   },
 
-  // a sentence, whose lines of scripts are buttons that lead there
+  // a sentence; a line of a script in it is a button that leads there
   sentence(says) {
     const made = element("p");
     made.append(...Read.pieces(says).map(({ text, whole, line, script }) => {
@@ -336,7 +345,7 @@ const Beside = {
     return made;
   },
 
-  // puts the mark at a line of one of the two
+  // marks a line of one of the two
   async lead(script, line) {
     if (script === "first") return this.lead_first(line);
     const at = Read.lines($("text").value, false).commands.findIndex(command => command.at === line);
@@ -352,29 +361,28 @@ const Beside = {
   },
 
   report(run, report) {
-    const is_same = run.status === 0, sees_same = !report.sees.length && / the same$/.test(report.seen);
-    const why = this.last.is_same ? "Both are the same script so far: edit it, or open another."
-      : !is_same ? "By that the two can be told apart."
+    const is_same = run.status === 0, sees_same = !report.sees.length && / sees? the same$/.test(report.seen);
+    const why = this.last.is_same ? "Both scripts are the same: edit the second, or open another."
+      : !is_same ? "This reply tells the two apart."
       : sees_same ? "Nothing here tells the two apart."
       : "What is seen differs, but no command here shows it.";
-    this.verdict(is_same ? "same" : "otherwise", (/^.* told (the same|otherwise)/.exec(report.told) || [report.told])[0], why);
+    this.verdict(is_same ? "same" : "different", (/^[^ ]+ gets? (the same replies|a different reply)/.exec(report.replies) || [report.replies])[0], why);
     const seen = element("ul", "seen");
     seen.append(...report.sees.map(line => element("li", "", line)));
     const both = element("div", "both"), { first, second } = report;
     if (first && second) both.append(this.side("In the first", first, second), this.side("In the second", second, first));
-    const when = sees_same ? element("p", "sum", "That is looked at before each command of those whom you chose, and at the end.") : seen;
-    $("report").replaceChildren(this.sentence(report.seen), when, ...(is_same ? [] : [this.sentence(report.told), both]));
+    const when = sees_same ? element("p", "sum", "What is seen is compared before each command of the users that you chose, and at the end.") : seen;
+    $("report").replaceChildren(this.sentence(report.seen), when, ...(is_same ? [] : [this.sentence(report.replies), both]));
   },
 
-  // what is told in one script; lines that the other lacks are marked
-  side(head, { part, is_unended }, other) {
-    const made = element("figure"), text = element("div", "part");
-    text.append(element("span", "command", part[0]), ...part.slice(1).map(line => {
+  // the reply in one script; lines that the other lacks are highlighted
+  side(head, { command, lines }, other) {
+    const made = element("figure"), text = element("div", "part"), others = new Set(other.lines.map(line => line.mark + line.text));
+    text.append(element("span", "command", command), ...lines.map(line => {
       const shown = Page.line(line);
-      shown.classList.toggle("alone", !other.part.includes(line));
+      shown.classList.toggle("alone", !others.has(line.mark + line.text));
       return shown;
     }));
-    if (is_unended) text.append(element("span", "line unended", "no newline at its end"));
     made.append(element("figcaption", "", head), text);
     return made;
   },
@@ -383,7 +391,7 @@ const Beside = {
     const said = Read.no_report(Read.text(run.errors)), why = run.trap ? `The run ended: ${run.trap}.` : said.says || `The run ended with status ${run.status}.`;
     this.verdict("none", run.trap ? "The two were not compared" : said.head, why);
     const below = said.code ? [element("code", "", Page.short(said.code, 200))] : [];
-    if (said.is_no_pair) below.push(element("p", "sum", "Two scripts are a pair where they have the same users, and those whom you chose give the same commands in both, written in the same way. What others do may differ."));
+    if (said.is_not_comparable) below.push(element("p", "sum", "Two scripts are comparable if they have the same users, and the users that you chose run the same commands in both, written the same way. The commands of others may differ."));
     $("report").replaceChildren(...below);
   },
 

@@ -3,7 +3,7 @@
 const Read = {
   decoder: new TextDecoder(),
 
-  // a text in which nothing is hidden: control characters and marks of direction are shown as signs or as escapes
+  // a text that hides nothing: control characters and direction marks become visible signs or escapes
   shown(text) {
     return text.replace(/[\u0000-\u0009\u000b-\u001f\u007f-\u009f\u061c\u200b-\u200f\u2028-\u202f\u2060-\u206f\ufeff]/g, c => {
       const code = c.charCodeAt(0);
@@ -14,7 +14,7 @@ const Read = {
   // bytes as such a text
   text: bytes => Read.shown(Read.decoder.decode(bytes)),
 
-  // words as scripts and lists spell them, as one reads them
+  // arguments with the escapes of scripts and call lists, as a person reads them
   plain: text => text.replace(/\\(x([0-9a-f]{2})|[sn\\])/g, (all, one, hex) => {
     const code = hex ? parseInt(hex, 16) : 0;
     return hex ? (code > 31 && code < 127 ? String.fromCharCode(code) : all) : one === "s" ? " " : one === "n" ? "\u21b5" : "\\";
@@ -23,7 +23,7 @@ const Read = {
   is_skipped: line => /^ *(#.*)?$/.test(line),
   words: line => line.split(" ").filter(word => word),
 
-  // the users of a script with their first uids, or the tasks of a list with theirs; and the lines of commands or calls
+  // the users of a script, or the tasks of a call list, each with the first uid; and the lines of commands or calls
   lines(text, is_list) {
     const users = new Map(is_list ? [] : [["root", "0"]]), commands = [];
     text.split("\n").forEach((line, at) => {
@@ -37,82 +37,94 @@ const Read = {
     return { users, commands };
   },
 
-  // paragraphs {part, learned, seen}: lines of the part, lines of what is learned, and what is seen by clauses; and the last line
-  output(text) {
-    const lines = text.split("\n"), paragraphs = [];
-    if (lines[lines.length - 1] === "") lines.pop();
-    while (lines.length > 1) {
-      const part = [lines.shift()], learned = [], seen = [];
-      while (lines.length && lines[0].startsWith("| ")) part.push(lines.shift().slice(2));
-      if (lines[0] === "\\ no newline") lines.shift();
-      while (lines.length && lines[0].startsWith("  ")) {
-        const line = lines.shift().slice(2), [head, ...clauses] = line.split(": ");
-        if (/ learns?$/.test(head)) learned.push(line); else seen.push(clauses);
-      }
-      if (lines.length && lines[0] === "") lines.shift();
-      paragraphs.push({ part, learned, seen });
+  // The reply to a command, from the line `reader.at` on: the command's line, and lines {mark, text, is_refused}. A mark is `|` for what was put out, `!` for a
+  // refusal and `\` where the last line has no newline. After the mark `:` the name on the line before goes on: it is shown as one name.
+  // What users write has marks of its own, so it never passes for a refusal; in call lists, a refusal is a reply like others, and data there has escapes.
+  reply(reader) {
+    const { lines } = reader, reply = { command: lines[reader.at++], lines: [] }, is_call = /^\d+ /.test(reply.command);
+    for (; /^[|!\\:] /.test(lines[reader.at] || ""); reader.at++) {
+      const mark = lines[reader.at][0], text = lines[reader.at].slice(2), name = reply.lines.at(-1);
+      if (mark !== ":") reply.lines.push({ mark, text, is_refused: mark === "!" || (is_call && /^  (Refused|Back) E[A-Z]+$/.test(text)) });
+      else if (name) name.text += "\u21b5" + text;
+      else reply.command += "\u21b5" + text;
     }
-    return { paragraphs, last: lines.shift() || "" };
+    return reply;
   },
 
-  // all that is seen, a sentence a line, by clauses
+  // paragraphs {reply, learned, seen}: what is learned by lines, and what is seen by clauses; and the last line
+  output(text) {
+    const reader = { lines: text.split("\n"), at: 0 }, { lines } = reader, paragraphs = [];
+    if (lines.at(-1) === "") lines.pop();
+    while (reader.at < lines.length - 1) {
+      const reply = this.reply(reader), learned = [], seen = [];
+      for (; reader.at < lines.length && lines[reader.at].startsWith("  "); reader.at++) {
+        const line = lines[reader.at].slice(2), [head, ...clauses] = line.split(": ");
+        if (/ learns?$/.test(head)) learned.push(line); else seen.push(clauses);
+      }
+      if (lines[reader.at] === "") reader.at++;
+      paragraphs.push({ reply, learned, seen });
+    }
+    return { paragraphs, last: lines[reader.at] || "" };
+  },
+
+  // everything that is seen, one sentence per line, by clauses
   seen: text => text.split("\n").filter(line => line).map(line => line.split(": ").slice(1)),
 
-  // a report on two scripts: the sentences of what is seen and told, lines of what is seen otherwise, and what is told in each
+  // a comparison of two scripts: the sentences about what is seen and about replies, the differences of what is seen, and the reply in each script
   report(text) {
-    const lines = text.split("\n"), report = { seen: lines.shift(), sees: [], told: "", first: null, second: null };
-    while (lines.length && lines[0].startsWith("  ")) report.sees.push(lines.shift().slice(2));
-    report.told = lines.shift() || "";
-    report.first = this.told_in(lines, "the first: ");
-    report.second = this.told_in(lines, "the second: ");
+    const reader = { lines: text.split("\n"), at: 1 }, { lines } = reader, report = { seen: lines[0], sees: [], replies: "", first: null, second: null };
+    for (; reader.at < lines.length && lines[reader.at].startsWith("  "); reader.at++) report.sees.push(lines[reader.at].slice(2));
+    report.replies = lines[reader.at++] || "";
+    report.first = this.reply_in(reader, "the first: ");
+    report.second = this.reply_in(reader, "the second: ");
     return report;
   },
 
-  // what is told behind a word, and whether its last line has an end; none where nothing stands there
-  told_in(lines, word) {
-    if (!lines.length || !lines[0].startsWith(word)) return null;
-    const part = [lines.shift().slice(word.length)];
-    while (lines.length && lines[0].startsWith("| ")) part.push(lines.shift().slice(2));
-    const is_unended = lines[0] === "\\ no newline";
-    if (is_unended) lines.shift();
-    return { part, is_unended };
+  // the reply after a label; none if the label is missing
+  reply_in(reader, label) {
+    const line = reader.lines[reader.at] || "";
+    if (!line.startsWith(label)) return null;
+    const reply = this.reply(reader);
+    return { ...reply, command: reply.command.slice(label.length) };
   },
 
-  // a sentence in pieces: texts, and lines of the first script or of the second
+  // a sentence in pieces: texts, and references to lines of the first script or of the second
   pieces: sentence => sentence.split(/(line \d+ of the (?:first|second)\b)/i).flatMap(text => {
     const line = /^(line (\d+))( of the (first|second))$/i.exec(text);
     return line ? [{ text: line[1], whole: text, line: Number(line[2]), script: line[4] }, { text: line[3] }] : [{ text }];
   }),
 
-  // why there is no report, of what is said on standard error: a verdict, a sentence, and a bad line
+  // what is said, as a sentence
+  sentence: said => said && said[0].toUpperCase() + said.slice(1) + (said.endsWith(".") ? "" : "."),
+
+  // why there is no report, from standard error: a verdict, a sentence, and a bad line
   no_report(text) {
     const [line, below] = text.split("\n"), named = /^hurd: (the first script|standard input)(?::(\d+))?: (.*)$/.exec(line);
-    const sentence = said => said && said[0].toUpperCase() + said.slice(1) + (said.endsWith(".") ? "" : ".");
-    if (!named) return { head: "The two were not compared", says: sentence(line.replace(/^hurd: /, "")) };
+    if (!named) return { head: "The two were not compared", says: this.sentence(line.replace(/^hurd: /, "")) };
     const script = named[1] === "standard input" ? "second" : "first", at = `line ${named[2]} of the ${script}`, why = named[3];
-    if (/^no pair\b/.test(why)) return { head: "These two are no pair", says: this.no_pair(why, at), is_no_pair: true };
+    if (/^not comparable\b/.test(why)) return { head: "These two are not comparable", says: this.not_comparable(why, at), is_not_comparable: true };
     const bad = /^bad script: (.*)$/.exec(why), stranger = /^no such user: (.*)$/.exec(why);
     if (stranger) return { head: "The two were not compared", says: stranger[1].includes(",") ? `The ${script} lacks one of these users: ${stranger[1]}.` : `The ${script} has no user ${stranger[1]}.` };
-    return { head: `The ${script} script can\u2019t be run`, says: sentence(bad ? `${at}: ${bad[1]}` : why), code: bad && below ? below.slice(2) : "" };
+    return { head: `The ${script} script can\u2019t be run`, says: this.sentence(bad ? `${at}: ${bad[1]}` : why), code: bad && below ? below.slice(2) : "" };
   },
 
-  // why two scripts are no pair, where the second has a command at this line
-  no_pair(why, at) {
-    const other = /^no pair: (not|lacks) the command at the first script:(\d+)$/.exec(why);
-    if (other && other[1] === "not") return `At ${at} stands another command than at line ${other[2]} of the first.`;
+  // why two scripts are not comparable; `at` is the line of the second that standard error names
+  not_comparable(why, at) {
+    const other = /^not comparable: (differs from|lacks the command at) the first script:(\d+)$/.exec(why);
+    if (other && other[1] === "differs from") return `The command at ${at} differs from the one at line ${other[2]} of the first.`;
     if (other) return `The second lacks the command at line ${other[2]} of the first.`;
-    if (why === "no pair: no such command in the first script") return `The first lacks the command at ${at}.`;
-    return why === "no pair: other users than the first script" ? "The second has other users than the first, or other ids of theirs." : "";
+    if (why === "not comparable: no such command in the first script") return `The first lacks the command at ${at}.`;
+    return why === "not comparable: its users differ from those of the first script" ? "The users of the second, or their ids, differ from those of the first." : "";
   },
 
-  // what is said on standard error, as a sentence, and the line of a bad text, which is -1 where none is named
+  // standard error as a sentence, and the line of a bad text, or -1 if it names no line
   complaint(text) {
-    const line = text.split("\n")[0], bad = /^hurd: standard input:(\d+): (bad (?:script|calls).*)$/.exec(line);
+    const line = text.split("\n")[0], bad = /^hurd: standard input:(\d+): (bad (?:script|call list):.*)$/.exec(line);
     const said = bad ? `Line ${bad[1]}: ${bad[2]}` : line.replace(/^hurd: (standard input: )?/, "").replace(/^no such (user|task): $/, "there is no $1");
-    return { at: bad ? Number(bad[1]) - 1 : -1, why: said && said[0].toUpperCase() + said.slice(1) + (said.endsWith(".") ? "" : ".") };
+    return { at: bad ? Number(bad[1]) - 1 : -1, why: this.sentence(said) };
   },
 
-  // what is seen, a row for each node and each server
+  // what is seen, one row for each node and each server
   rows(seen) {
     const rows = [];
     for (const [place, parts] of seen) {
@@ -135,7 +147,7 @@ const Read = {
     else if (part === "no entries" || part === "its targets' entries") { row.entries = []; row.is_open = true; }
     else if (part.startsWith("bytes ") || part.startsWith("given ")) { row.bytes = part; row.is_open = true; }
     else if (["no bytes", "its server's text", "zeros"].includes(part)) row.is_open = true;
-    else if (part.startsWith("program ")) { row.program = rest("program"); row.is_told = true; }
+    else if (part.startsWith("program ")) { row.program = rest("program"); }
     else if (part.startsWith("text ")) row.text = rest("text");
     else if (part.startsWith("root ")) row.root = rest("root");
     else if (part.startsWith("runs as ")) row.runs = rest("runs as");

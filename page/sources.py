@@ -1,7 +1,7 @@
 #!/usr/bin/env python3
-"""The sum over the sources of the page: of its program and all crates below it, of the examples and of page/. No git is asked.
+"""The checksum of the sources of the page: its program, all crates that it depends on, the examples, and page/. It does not use git.
 
-`sources.py` prints it; `sources.py PAGE` compares it with the one that a page was made of, and says so where it is another.
+`sources.py` prints it; `sources.py PAGE` compares it with the checksum of the sources from which a page was made.
 """
 import hashlib
 import os
@@ -11,12 +11,12 @@ import sys
 HERE = os.path.dirname(os.path.abspath(__file__))
 TOP = os.path.dirname(HERE)
 PROGRAM = "hurd_page"
-# what is no source of the page: what is made, and what it is made into
+# not sources of the page: what is made, and folders of it
 MADE = {"out", "__pycache__", "must-fail"}
 
 
 def below(name):
-    """This crate and all that it stands on in this repository, by crates.txt: each with what it stands on."""
+    """This crate and all crates of this repository that it depends on, by crates.txt; each with its own dependencies."""
     lines = {}
     with open(os.path.join(TOP, "crates.txt"), encoding="utf-8") as file:
         for line in file:

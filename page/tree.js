@@ -1,9 +1,9 @@
-// The tree as a picture: below a directory its entries, below a node the root of the server that is active on it, and around the nodes of a server a box.
+// The tree as a picture. The entries of a directory are below it. The root of a server is below the node on which it is active. A box surrounds the nodes of a server.
 "use strict";
 const Tree = {
   row: 27, step: 26, edge: 14, letter: 7.3, small: 6.6,
 
-  // nodes by path, each with those below it; nodes to which nothing leads stand by themselves
+  // nodes by path, each with those below it; nodes to which nothing leads are separate
   grow(rows) {
     const nodes = new Map(), servers = new Map(), below = new Map(), placed = new Set();
     for (const row of rows) {
@@ -19,7 +19,7 @@ const Tree = {
       const under = node.path === "/" ? "/" : node.path + "/";
       const entries = (node.entries || []).flatMap(name => {
         const at = under + name;
-        return take(nodes.has(at + "(beneath)") ? at + "(beneath)" : at).map(entry => ({ node: entry, name }));
+        return take(nodes.has(at + "(underlying)") ? at + "(underlying)" : at).map(entry => ({ node: entry, name }));
       });
       const server = node.active && servers.get(node.active);
       const root = server && server.root && server.root !== node.path ? take(server.root).map(entry => ({ node: entry, name: "", server })) : [];
@@ -29,7 +29,8 @@ const Tree = {
     return { nodes, servers, below, root: nodes.get("/"), loose };
   },
 
-  // the path at which all together find the node that the learners find by another way, if that can be told: by a target, as a parent or a root, or below such a node
+  // The path at which everybody together finds a node to which the chosen ones have another path: by a target, as a parent or a root, or below such a node.
+  // Undefined if nothing shows which node that is.
   resolve({ nodes, servers }, path) {
     if (nodes.has(path)) return path;
     const step = /^(.*)\((target (\d+)|parent|root)\)$/.exec(path), entry = /^(.*[^/])\/([^/]*)$/.exec(path);
@@ -41,7 +42,7 @@ const Tree = {
     return step[2] === "root" ? own && own.root : aims && aims.targets && aims.targets[step[3] - 1];
   },
 
-  resolve_entry: (nodes, path, said) => [path + said.replace(/^[^(]*/, ""), path, path + "(beneath)"].find(at => nodes.has(at)),
+  resolve_entry: (nodes, path, name) => [path + name.replace(/^[^(]*/, ""), path, path + "(underlying)"].find(at => nodes.has(at)),
 
   clip: (text, most) => text.length > most ? text.slice(0, most - 1) + "\u2026" : text,
 
@@ -58,11 +59,11 @@ const Tree = {
     return [
       mode, node.uid === undefined ? "" : names.get(node.uid) || "uid " + node.uid,
       bytes ? "\u201c" + this.clip(Read.plain(bytes), 26) + "\u201d" : "",
-      node.passive && !node.active ? "waits: " + this.clip(Read.plain(node.passive), 34) : "", node.is_gone ? "gone" : "",
+      node.passive && !node.active ? "passive: " + this.clip(Read.plain(node.passive), 34) : "", node.is_gone ? "gone" : "",
     ].filter(text => text).join("  ");
   },
 
-  // rows of all that there is, rows of what is seen, and the names of uids
+  // rows of what everybody together sees, rows of what the chosen ones see, and the names of uids
   draw(all, seen, names) {
     const grown = this.grow(all), { servers, below, root, loose } = grown;
     if (!root) return null;
@@ -78,7 +79,7 @@ const Tree = {
 
     const pill = (node, name, x, middle) => {
       const shown = this.clip(Read.plain(name), 32), width = 20 + this.letter * shown.length, note = this.note(node, names), mark = marks.get(node.path) || "unseen";
-      const words = { open: "what is in it is seen", rim: "its attributes alone are seen", unseen: "nothing of it is seen" };
+      const words = { open: "its contents are seen", rim: "only its attributes are seen", unseen: "it is not seen" };
       places.set(node.path, { x, middle });
       pills.push(this.make("g", { class: "node " + mark, "data-path": node.path },
         this.make("title", {}, node.place + ": " + words[mark] + ": " + node.says),
@@ -132,9 +133,9 @@ const Tree = {
       this.make("defs", {}, tip), ...boxes, ...ways, ...arcs, ...pills);
   },
 
-  // the picture in words, for who doesn't see it
+  // the picture in words, for whoever cannot see it
   told(nodes, marks) {
     const open = nodes.filter(row => marks.get(row.path) === "open").length, rim = nodes.filter(row => marks.get(row.path) === "rim").length;
-    return `The tree: ${nodes.length} nodes. Of ${open} what is in it is seen, of ${rim} the attributes alone, and of ${nodes.length - open - rim} nothing. The table under "All that is seen" has the same.`;
+    return `The tree has ${nodes.length} nodes. The contents of ${open} are seen; of ${rim}, only the attributes are seen; ${nodes.length - open - rim} are not seen. The table under "Everything seen" lists the same.`;
   },
 };

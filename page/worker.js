@@ -1,9 +1,9 @@
-// Runs the program. It stands in a worker of the page: each run is a fresh instance of the program's module, which imports nothing, so a run leaves nothing
-// behind, and can touch nothing but its own memory.
+// Runs the program, in a worker of the page. Each run is a fresh instance of the program's module. The module imports nothing, so a run leaves nothing
+// behind, and can touch only its own memory.
 "use strict";
 let module;
 
-// a text or a word, in the memory of an instance
+// puts a text or an argument into the memory of an instance
 function put(exports, bytes) {
   const at = exports.room(BigInt(bytes.length + 1));
   if (!at) throw new Error("no room");
@@ -11,7 +11,7 @@ function put(exports, bytes) {
   return [at, BigInt(bytes.length)];
 }
 
-// {status, bytes, errors}: what the program printed, what it said on standard error, and its status; where it could not end, {trap}
+// {status, bytes, errors}: the exit status, standard output and standard error; also {trap} if the run could not end
 function run(text, words) {
   const { exports } = new WebAssembly.Instance(module, {}), kept = (at, length) => new Uint8Array(exports.memory.buffer, Number(at), Number(length)).slice();
   try {
@@ -26,6 +26,6 @@ function run(text, words) {
 
 onmessage = ({ data }) => {
   if (data.module) { module = new WebAssembly.Module(data.module); return; }
-  const told = run(data.text, data.words);
-  postMessage({ id: data.id, ...told }, [told.bytes.buffer, told.errors.buffer]);
+  const done = run(data.text, data.words);
+  postMessage({ id: data.id, ...done }, [done.bytes.buffer, done.errors.buffer]);
 };

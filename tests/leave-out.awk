@@ -1,11 +1,12 @@
-# Leaves commands of others out of scripts, by what `hurd learns` printed of them:
+# Leaves commands by others out of scripts, by what `hurd learn` printed of them:
 # awk -v user=USER -v outputs=FOLDER -v reduced=FOLDER -v control=1 -f tests/leave-out.awk NAME.hurd..
-# Reads outputs/NAME.out. A stretch is as many commands as there are one after another without one of others that teaches the user something.
-# For each, writes the script that ends with it, without the commands of others in it, as reduced/NAME-1.hurd and so on, and what `hurd learns` is then
-# to print as NAME-1.wanted. With control set it also writes NAME-control.hurd, without any command of others from the middle one of those that
-# teach something on, and what would be printed if none of them had taught anything.
-# Prints how many stretches there are, how many commands are left out in them, and with how many of the user's behind these; or, with status 1,
-# which output is not as it should be.
+# Reads outputs/NAME.out. A stretch is a longest run of commands in which none by others teaches the user anything.
+# For each, writes the script up to its end, without the commands by others in it, as reduced/NAME-1.hurd and so on.
+# What `hurd learn` must then print is NAME-1.wanted.
+# With control set, it also writes NAME-control.hurd: from the middle one of the commands that teach something, it lacks all commands by others.
+# Its .wanted is what would be printed if none of them had taught anything.
+# Prints how many stretches there are, how many commands are left out in them, and how many of the user's commands come after those.
+# If an output is not as it should be, it prints which one, with status 1.
 
 BEGIN {
     lesson = "  " user " learns: "
@@ -15,7 +16,7 @@ BEGIN {
         sub(/\.hurd$/, "", name)
         read_script(ARGV[argument])
         if (!read_output(outputs "/" name ".out")) {
-            print name ": the output has not each command's line, and then the count of those that taught something"
+            print name ": the output lacks a command's line, or doesn't end with the count"
             exit 1
         }
         leave_stretches_out()
@@ -24,7 +25,7 @@ BEGIN {
     print stretches + 0, left_out + 0, compared + 0
 }
 
-# the users' lines, and of each command its line, the line that names it in the output, and whether it is the user's own
+# the users' lines, and of each command its line, its line in the output, and whether it is the user's own
 function read_script(file, text) {
     users = ""
     commands = 0
@@ -50,7 +51,7 @@ function rest_of(text) {
     return text
 }
 
-# of each command what is printed of it, and whether it taught something; whether all is there
+# of each command its paragraph, and whether it taught something; returns whether all are there
 function read_output(file, text, at, last) {
     at = taught = others = 0
     last = ""
@@ -76,7 +77,7 @@ function read_output(file, text, at, last) {
 function last_line(count, i, taught, others) {
     taught = others = 0
     for (i = 1; i <= count; i++) if (!own[i]) { others++; taught += teaches[i] }
-    return user " learned from " taught " of " others " command" (others == 1 ? "" : "s") " of others"
+    return user " learned from " taught " of " others " command" (others == 1 ? "" : "s") " by others"
 }
 
 function leave_stretches_out(first, last, number) {
@@ -88,28 +89,28 @@ function leave_stretches_out(first, last, number) {
     }
 }
 
-# counts what a stretch leaves out, if some command of the user's stands behind it
-function count_left(first, last, i, left, behind) {
-    left = behind = 0
+# counts what a stretch leaves out, if a command of the user's comes after it
+function count_left(first, last, i, left, later) {
+    left = later = 0
     for (i = first; i <= last; i++) {
         if (!own[i]) left++
-        else if (left) behind++
+        else if (left) later++
     }
-    if (!behind) return 0
+    if (!later) return 0
     stretches++
     left_out += left
-    compared += behind
+    compared += later
     return 1
 }
 
-# all from the middle one of the commands that teach something on
+# from the middle one of the commands that teach something, all by others
 function leave_more_out(i, teaching, at) {
     teaching = 0
     for (i = 1; i <= commands; i++) if (teaches[i]) at[++teaching] = i
     if (teaching) write_reduced(name "-control", at[int((teaching + 1) / 2)], commands)
 }
 
-# the commands before the first of these, and of these the user's own
+# the commands before the first of these, and the user's own among these
 function write_reduced(new, first, last, i, script, wanted) {
     script = reduced "/" new ".hurd"
     wanted = reduced "/" new ".wanted"

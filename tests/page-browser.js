@@ -1,5 +1,5 @@
-// page-browser.js PAGE BROWSER [FOLDER]: the page, opened from a file in a browser without a network. Steps are made and scripts are put side by side, and what
-// it shows is compared with what `hurd learns`, `hurd see` and `hurd tell` print, which HURD names. With a folder, pictures of the page are left there.
+// page-browser.js PAGE BROWSER [FOLDER]: opens the page from a file, in a browser without a network. It steps through scripts, compares scripts, and checks what
+// the page shows against `hurd learn`, `hurd see` and `hurd compare` of the program that HURD names. With a folder, pictures of the page are kept there.
 "use strict";
 const { readFileSync, writeFileSync, mkdtempSync, rmSync } = require("node:fs");
 const { spawn, spawnSync } = require("node:child_process");
@@ -9,7 +9,7 @@ const [page, browser, folder] = process.argv.slice(2), address = "file://" + res
 let passed = 0, failed = 0;
 const says = (what, good) => { if (good) passed++; else if (failed++ < 10) console.log("page: in a browser: " + what); };
 
-// a browser that is told what to do through a pipe
+// a browser that takes its commands from a pipe
 function start() {
   const ran = spawn(browser, ["--headless=new", "--no-sandbox", "--disable-gpu", "--proxy-server=127.0.0.1:1", "--remote-debugging-pipe", "--user-data-dir=" + mkdtempSync(join(tmpdir(), "page-"))], { stdio: ["ignore", "ignore", "ignore", "pipe", "pipe"] });
   const waiting = new Map();
@@ -17,11 +17,11 @@ function start() {
   ran.stdio[4].on("data", bytes => {
     const said = (left + bytes).split("\0");
     left = said.pop();
-    for (const text of said) { const told = JSON.parse(text), done = waiting.get(told.id); waiting.delete(told.id); if (done) done(told); }
+    for (const text of said) { const answer = JSON.parse(text), done = waiting.get(answer.id); waiting.delete(answer.id); if (done) done(answer); }
   });
   const ask = (method, params = {}, sessionId = undefined) => new Promise((done, fail) => {
     const id = next++;
-    waiting.set(id, told => told.error ? fail(new Error(method + ": " + told.error.message)) : done(told.result));
+    waiting.set(id, answer => answer.error ? fail(new Error(method + ": " + answer.error.message)) : done(answer.result));
     ran.stdio[3].write(JSON.stringify({ id, method, params, sessionId }) + "\0");
   });
   return { ask, stop: () => ran.kill("SIGKILL") };
@@ -29,45 +29,49 @@ function start() {
 
 const sleep = ms => new Promise(done => setTimeout(done, ms));
 
-function program(sort, text, who, verb = "learns") {
+function program(sort, text, who, verb = "learn") {
   const { stdout, stderr } = spawnSync(process.env.HURD, [verb, ...(sort === "calls" ? ["--calls"] : []), who, "-"], { input: text, maxBuffer: 1 << 28 });
   return { out: stdout.toString(), errors: stderr.toString() };
 }
 
-// what the program prints of two scripts, and its status
-function tell_program(one, two, who) {
+// what the program prints when it compares two scripts, and its status
+function compare_program(one, two, who) {
   const room = mkdtempSync(join(tmpdir(), "pair-")), files = [join(room, "one"), join(room, "two")];
   writeFileSync(files[0], one);
   writeFileSync(files[1], two);
-  const { stdout, status } = spawnSync(process.env.HURD, ["tell", who, ...files], { maxBuffer: 1 << 28 });
+  const { stdout, status } = spawnSync(process.env.HURD, ["compare", who, ...files], { maxBuffer: 1 << 28 });
   rmSync(room, { recursive: true });
   return { out: stdout.toString(), status };
 }
 
-// paragraphs of an output, with the lines of what is seen
+// a name that goes on on the next line is shown as one name
+const as_one_name = text => text.replaceAll("\n: ", "\u21b5");
+
+// the paragraphs of an output: the lines of the reply, from the command on, with their marks; and what is learned
 function paragraphs(out) {
-  return out.split("\n\n").slice(0, -1).map(text => { const lines = text.split("\n"); return { lines, seen: lines.filter(line => /^  [^|]* sees?: /.test(line)), learned: lines.filter(line => /^  [^|]* learns?: /.test(line)) }; });
+  return out.split("\n\n").slice(0, -1).map(text => { const lines = as_one_name(text).split("\n"); return { lines: lines.filter(line => !line.startsWith("  ")), learned: lines.filter(line => /^  [^ ].* learns?: /.test(line)) }; });
 }
 
-// beside another script: the tab shows what `hurd tell` prints, and leads to its lines
+// two scripts: the tab shows what `hurd compare` prints, and leads to its lines
 async function beside({ value, open, ready, size }) {
   const example = name => readFileSync(join("examples", name + ".hurd"), "utf8"), is_same = (one, other) => JSON.stringify(one) === JSON.stringify(other);
   const click = async of => { await value(`document.querySelector(${JSON.stringify(of)}).click()`); return ready(); };
   const chosen = () => value(`[...document.querySelectorAll("#who input:checked")].map(input => input.value).join()`);
   const edit = async text => { await value(`{ const box = document.getElementById("text"); box.value = ${JSON.stringify(text)}; box.dispatchEvent(new Event("input")); document.body.dataset.ready = "no"; }`); return ready(); };
   const look = async (...users) => { await value(`Page.who = new Set(${JSON.stringify(users)}); Page.show()`); return ready(); };
-  // what the tab says: the verdict, why, the report as the program prints it, and whether it has no part that a text put there
+  // what the tab says: the verdict, why, the report as the program prints it, and whether no text became a part of the page
   const says_now = () => value(`(() => {
-    const all = of => [...document.querySelectorAll(of)], text = it => it ? it.textContent : "", part = side => { const [first, ...rest] = [...side.querySelectorAll(".command, .line:not(.unended)")].map(text); return [first, ...rest.map(line => "| " + line)].join("\\n") + "\\n"; };
-    const [seen, told] = all("#report > p:not(.sum)").map(text), head = text(document.querySelector("#verdict strong")), sides = all("#report figure");
-    const report = seen + "\\n" + all("#report .seen li").map(line => "  " + text(line) + "\\n").join("") + (told || head) + "\\n" + sides.map((side, k) => ["the first: ", "the second: "][k] + part(side)).join("");
+    const all = of => [...document.querySelectorAll(of)], text = it => it ? it.textContent : "", part = side => [...side.querySelectorAll(".command, .line")].map(text).join("\\n") + "\\n";
+    const [seen, replies] = all("#report > p:not(.sum)").map(text), head = text(document.querySelector("#verdict strong")), sides = all("#report figure");
+    const report = seen + "\\n" + all("#report .seen li").map(line => "  " + text(line) + "\\n").join("") + (replies || head) + "\\n" + sides.map((side, k) => ["the first: ", "the second: "][k] + part(side)).join("");
     return { head, kind: document.getElementById("verdict").className, why: text(document.querySelector("#verdict p")), report, shown: text(document.getElementById("beside")), clean: window.hit === undefined && !all("main img, main script").length };
   })()`);
-  const is_told = async (what, one, two) => {
-    const who = await chosen(), { out, status } = tell_program(one, two, who), now = await says_now();
-    says(`${what}, ${who}: ${JSON.stringify({ ...now, shown: undefined })} for ${status}: ${out}`, now.report === out && (status === 0 ? now.kind === "same" && / told the same$/.test(now.head) : status === 3 && now.kind === "otherwise" && / told otherwise$/.test(now.head)) && now.head.startsWith(who + " "));
+  const is_compared = async (what, one, two) => {
+    const who = await chosen(), { out, status } = compare_program(one, two, who), now = await says_now();
+    says(`${what}, ${who}: ${JSON.stringify({ ...now, shown: undefined })} for ${status}: ${out}`, now.report === as_one_name(out) && (status === 0 ? now.kind === "same" && / gets? the same replies$/.test(now.head) : status === 3 && now.kind === "different" && / gets? a different reply$/.test(now.head)) && now.head.startsWith(who + " ")
+      && (now.why === "What is seen differs, but no command here shows it.") === (status === 0 && one !== two && !/^[^ ]+ sees? the same\n/.test(out)));
   };
-  const is_not_told = async (what, head, why, below = "") => {
+  const is_not_compared = async (what, head, why, below = "") => {
     const now = await says_now();
     says(`${what}: ${JSON.stringify({ ...now, shown: undefined })}`, now.kind === "none" && now.head === head && now.why === why && now.shown.includes(below) && now.clean && await value(`!document.querySelector("#report figure, #report .seen")`));
   };
@@ -78,27 +82,27 @@ async function beside({ value, open, ready, size }) {
   says("the keys of the tabs", is_same([await key("told", "ArrowLeft"), await key("beside", "ArrowRight"), await key("told", "ArrowRight"), await key("sees", "ArrowRight")], ["tab-beside,beside", "tab-told,told", "tab-sees,sees", "tab-beside,beside"]));
   says("nothing is kept", await value(`!document.getElementById("what-for").hidden && document.querySelectorAll("#pairs button").length === 4 && document.getElementById("let-go").hidden && document.getElementById("first").hidden && !document.getElementById("verdict").hasChildNodes() && !document.getElementById("report").hasChildNodes()`));
 
-  // kept: beside itself, another example and an edited text, for those who are chosen
+  // kept: compared with itself, with another example and with an edited text, for the chosen users
   const [one, two] = [example("secret-told"), example("secret-told-otherwise")];
   await click("#keep");
-  await is_told("a script beside itself", one, one);
-  says("a script beside itself is said", (await says_now()).why.startsWith("Both are the same script"));
+  await is_compared("a script beside itself", one, one);
+  says("the page says that a script is compared with itself", (await says_now()).why.startsWith("Both scripts are the same"));
   await value(`Page.pick("secret-told-otherwise.hurd")`);
-  for (const users of [["alice"], ["guest"], ["root"], ["alice", "guest"], ["root", "alice", "guest"]]) { await look(...users); await is_told("secret-told and secret-told-otherwise", one, two); }
+  for (const users of [["alice"], ["guest"], ["root"], ["alice", "guest"], ["root", "alice", "guest"]]) { await look(...users); await is_compared("secret-told and secret-told-otherwise", one, two); }
   await look("bob");
-  await is_not_told("another command", "These two are no pair", "At line 7 of the second stands another command than at line 7 of the first.", "What others do may differ.");
+  await is_not_compared("another command", "These two are not comparable", "The command at line 7 of the second differs from the one at line 7 of the first.", "The commands of others may differ.");
   await look("alice");
   await edit(two.replace("put /tmp/x two", "put /tmp/y two"));
-  await is_told("an edited script", one, two.replace("put /tmp/x two", "put /tmp/y two"));
+  await is_compared("an edited script", one, two.replace("put /tmp/x two", "put /tmp/y two"));
   for (const [what, text, head, why, below] of [
-    ["another command", two.replace("alice cat", "alice ls"), "These two are no pair", "At line 9 of the second stands another command than at line 9 of the first."],
-    ["a command less", two.replace("alice chmod 666 /tmp/x\n", ""), "These two are no pair", "At line 16 of the second stands another command than at line 13 of the first."],
-    ["the last command less", two.replace(/alice cat \/tmp\/x\n(?=guest cat \/tmp\/x\nbob chmod 8)/, ""), "These two are no pair", "The second lacks the command at line 17 of the first."],
-    ["a command more", two + "alice ls /\n", "These two are no pair", "The first lacks the command at line 20 of the second."],
-    ["other users", two.replace("user guest - -", "user guest 7 -"), "These two are no pair", "The second has other users than the first, or other ids of theirs."],
+    ["another command", two.replace("alice cat", "alice ls"), "These two are not comparable", "The command at line 9 of the second differs from the one at line 9 of the first."],
+    ["one command less", two.replace("alice chmod 666 /tmp/x\n", ""), "These two are not comparable", "The command at line 16 of the second differs from the one at line 13 of the first."],
+    ["the last command less", two.replace(/alice cat \/tmp\/x\n(?=guest cat \/tmp\/x\nbob chmod 8)/, ""), "These two are not comparable", "The second lacks the command at line 17 of the first."],
+    ["one command more", two + "alice ls /\n", "These two are not comparable", "The first lacks the command at line 20 of the second."],
+    ["other users", two.replace("user guest - -", "user guest 7 -"), "These two are not comparable", "The users of the second, or their ids, differ from those of the first."],
     ["a bad second", two + "alice frob <img\\ssrc=x\\sonerror=window.hit=1>\n", "The second script can\u2019t be run", "Line 20 of the second: no such command.", "alice frob <img\\\\ssrc=x\\\\sonerror=window.hit=1>"],
     ["a second that is too long", "#".repeat(1048577), "The second script can\u2019t be run", "Longer than 1048576 bytes."],
-  ]) { await edit(text); await is_not_told(what, head, why, below); }
+  ]) { await edit(text); await is_not_compared(what, head, why, below); }
 
   // lines lead there, and the report stays as it is
   await value(`Page.open(${JSON.stringify(two)}, "script", ["alice"])`);
@@ -106,49 +110,49 @@ async function beside({ value, open, ready, size }) {
   says("a line of the second", await led("second") === "4,true,10,false" && await value(`document.getElementById("at").value`) === "7");
   says("a line of the first", await led("first") === "4,true,10,true");
 
-  // lists are no pair; the first is let go
+  // call lists are not compared; the first is discarded
   await value(`Page.pick("learned-pipe.calls")`);
   const list = await says_now();
-  says("a list: " + JSON.stringify(list), list.head === "Lists of calls are no pair" && /for scripts/.test(list.why) && await value(`document.getElementById("keep").disabled && !document.getElementById("let-go").hidden`));
+  says("a list: " + JSON.stringify(list), list.head === "Call lists cannot be compared" && /compares scripts/.test(list.why) && await value(`document.getElementById("keep").disabled && !document.getElementById("let-go").hidden`));
   await value(`Page.pick("secret-told-otherwise.hurd")`);
-  await is_told("a script behind a list", one, two);
+  await is_compared("a script after a list", one, two);
   await click("#let-go");
-  says("the first is let go", await value(`Beside.first === null && !document.getElementById("what-for").hidden && document.getElementById("first").hidden && !document.getElementById("verdict").hasChildNodes() && !document.getElementById("report").hasChildNodes() && document.activeElement.id === "keep" && !document.getElementById("beside").textContent.includes("alice cat /tmp/x")`));
+  says("the first is discarded", await value(`Beside.first === null && !document.getElementById("what-for").hidden && document.getElementById("first").hidden && !document.getElementById("verdict").hasChildNodes() && !document.getElementById("report").hasChildNodes() && document.activeElement.id === "keep" && !document.getElementById("beside").textContent.includes("alice cat /tmp/x")`));
 
   // pairs of the examples
   for (const [k, first, second] of [[1, "secret-told", "secret-told-otherwise"], [2, "secret-kept-one", "secret-kept-two"], [3, "unseen-one", "unseen-two"], [4, "started-by-alice", "started-by-bob"]]) {
     await click(`#pairs li:nth-child(${k}) button`);
     says(`the pair ${first}`, await value(`$("example").value`) === second + ".hurd" && (await says_now()).shown.includes(`First: ${first.replaceAll("-", " ")}, `) && await chosen() === "alice");
-    await is_told("a pair of the examples", example(first), example(second));
+    await is_compared("a pair of the examples", example(first), example(second));
     await click("#let-go");
   }
 
-  // a bad first, somebody who isn't in it, and users who have markup in their texts and names
+  // a bad first, somebody who isn't in it, and markup in texts and names
   await value(`Page.open("root ls /\\nroot frob <img src=x onerror=window.hit=1>\\n", "script", ["root"])`);
   await click("#keep");
-  await is_not_told("a bad first, kept", "The first script can\u2019t be run", "Line 2 of the first: no such command.", "root frob <img src=x onerror=window.hit=1>");
+  await is_not_compared("a bad first, kept", "The first script can\u2019t be run", "Line 2 of the first: no such command.", "root frob <img src=x onerror=window.hit=1>");
   await value(`Page.pick("welcome.hurd")`);
-  await is_not_told("a bad first", "The first script can\u2019t be run", "Line 2 of the first: no such command.");
+  await is_not_compared("a bad first", "The first script can\u2019t be run", "Line 2 of the first: no such command.");
   await value(`Page.open("root ls /\\n", "script", ["root"])`);
   await click("#keep");
   await value(`Page.open("user alice 1000 1000\\nroot ls /\\nalice ls /\\n", "script", ["alice"])`);
-  await is_not_told("somebody who isn't in the first", "The two were not compared", "The first has no user alice.");
+  await is_not_compared("somebody who isn't in the first", "The two were not compared", "The first has no user alice.");
   await look("root", "alice");
-  await is_not_told("some who aren't in the first", "The two were not compared", "The first lacks one of these users: root,alice.");
+  await is_not_compared("some who aren't in the first", "The two were not compared", "The first lacks one of these users: root,alice.");
   const image = "<img\\ssrc=x\\sonerror=window.hit=1>", marked = text => `user alice 1000 1000\nroot mkdir /${image}\nroot put /${image}/x ${text}\nroot settrans -a /h /hurd/hello --contents=${text}\n# <img src=x onerror=window.hit=1>\nalice cat /${image}/x\nalice ls /${image}\nalice cat /<script>window.hit=1</script>\n`;
   await value(`Page.open(${JSON.stringify(marked(image + "\\n"))}, "script", ["alice"])`);
   await click("#keep");
   await value(`document.getElementById("first").open = true`);
   for (const text of [marked(image + image + "\\n"), marked(image), marked("</script><script>window.hit=1</script>"), marked(image + "\\n").replace(`ls /${image}`, `ls -d /${image}`), marked(image + "\\n").replace("alice ls", "alice <img/src=x/onerror=window.hit=1>")]) {
     await edit(text);
-    const now = await says_now(), { out, status } = tell_program(marked(image + "\\n"), text, "alice");
-    says(`markup: ${JSON.stringify({ ...now, shown: undefined })}`, now.clean && now.shown.includes("onerror=window.hit=1") && (status === 1 ? now.kind === "none" : now.report === out));
+    const now = await says_now(), { out, status } = compare_program(marked(image + "\\n"), text, "alice");
+    says(`markup: ${JSON.stringify({ ...now, shown: undefined })}`, now.clean && now.shown.includes("onerror=window.hit=1") && (status === 1 ? now.kind === "none" : now.report === as_one_name(out)));
   }
   await value(`Page.open("root ls /\\u001b\\u202e\\u0007\\n", "script", ["root"])`);
   await click("#keep");
   says("control characters in the first", !/[\u0007\u001b\u202e]/.test((await says_now()).shown));
 
-  // in a narrow window nothing stands beyond its edge
+  // in a narrow window nothing goes beyond its edge
   await size(390, 844, false);
   await open("example=welcome.hurd");
   await click("#tab-beside");
@@ -162,41 +166,50 @@ async function main() {
   const { ask, stop } = start();
   try {
     const { targetId } = await ask("Target.createTarget", { url: "about:blank" }), { sessionId } = await ask("Target.attachToTarget", { targetId, flatten: true });
-    const tell = (method, params) => ask(method, params, sessionId);
-    const value = async text => { const told = await tell("Runtime.evaluate", { expression: text, awaitPromise: true, returnByValue: true }); if (told.exceptionDetails) throw new Error(text + ": " + JSON.stringify(told.exceptionDetails.exception)); return told.result.value; };
+    const command = (method, params) => ask(method, params, sessionId);
+    const value = async text => { const done = await command("Runtime.evaluate", { expression: text, awaitPromise: true, returnByValue: true }); if (done.exceptionDetails) throw new Error(text + ": " + JSON.stringify(done.exceptionDetails.exception)); return done.result.value; };
     const ready = async () => { for (let k = 0; k < 3000; k++) { const said = await value("document.body && document.body.dataset.ready"); if (said && said !== "no") return said; await sleep(20); } return "never"; };
-    await tell("Page.enable");
-    await tell("Runtime.enable");
-    const open = async words => { await tell("Page.navigate", { url: "about:blank" }); await tell("Page.navigate", { url: address + "#" + words }); return ready(); };
-    const size = (width, height, dark) => Promise.all([tell("Emulation.setDeviceMetricsOverride", { width, height, deviceScaleFactor: 1, mobile: width < 600 }), tell("Emulation.setEmulatedMedia", { features: [{ name: "prefers-color-scheme", value: dark ? "dark" : "light" }] })]);
-    const shoot = async name => { if (folder) writeFileSync(join(folder, name + ".png"), Buffer.from((await tell("Page.captureScreenshot", { format: "png" })).data, "base64")); };
+    await command("Page.enable");
+    await command("Runtime.enable");
+    const open = async words => { await command("Page.navigate", { url: "about:blank" }); await command("Page.navigate", { url: address + "#" + words }); return ready(); };
+    const size = (width, height, dark) => Promise.all([command("Emulation.setDeviceMetricsOverride", { width, height, deviceScaleFactor: 1, mobile: width < 600 }), command("Emulation.setEmulatedMedia", { features: [{ name: "prefers-color-scheme", value: dark ? "dark" : "light" }] })]);
+    const shoot = async name => { if (folder) writeFileSync(join(folder, name + ".png"), Buffer.from((await command("Page.captureScreenshot", { format: "png" })).data, "base64")); };
 
-    // steps: behind each command of some examples the texts and the picture are those of the program
+    // steps: after each command of some examples, the texts and the picture are those of the program
     await size(1280, 800, false);
     for (const [file, who] of [["learned-secret.hurd", "alice"], ["learned-target.hurd", "bob"], ["union.hurd", "alice"], ["learned-programs.hurd", "alice"], ["learned-pipe.calls", "1"]]) {
-      const text = readFileSync(join("examples", file), "utf8"), sort = file.endsWith(".calls") ? "calls" : "script", told = paragraphs(program(sort, text, who).out);
+      const text = readFileSync(join("examples", file), "utf8"), sort = file.endsWith(".calls") ? "calls" : "script", printed = paragraphs(program(sort, text, who).out);
       says(file + ": is " + await open(`example=${file}&who=${who}`), await ready() === "yes");
-      const shown = await value(`[...document.querySelectorAll("#told .part")].map(part => ({ learned: [...part.querySelectorAll(".learned")].map(line => line.textContent), told: [part.querySelector(".command"), ...part.querySelectorAll(".line")].map(line => line.textContent) }))`);
-      says(file + ": as many paragraphs", shown.length === told.length);
+      const shown = await value(`[...document.querySelectorAll("#told .part")].map(part => ({ learned: [...part.querySelectorAll(".learned")].map(line => line.textContent), lines: [part.querySelector(".command"), ...part.querySelectorAll(".line")].map(line => line.textContent) }))`);
+      says(file + ": as many paragraphs", shown.length === printed.length);
       const is_same = (one, other) => JSON.stringify(one) === JSON.stringify(other);
-      told.forEach(({ lines, learned }, k) => says(`${file}: paragraph ${k + 1}`, shown[k] && is_same(shown[k].learned, learned.map(line => line.slice(2))) && is_same(shown[k].told, [lines[0], ...lines.filter(line => line.startsWith("| ")).map(line => line.slice(2) || " ")])));
+      printed.forEach(({ lines, learned }, k) => says(`${file}: paragraph ${k + 1}`, shown[k] && is_same(shown[k].learned, learned.map(line => line.slice(2))) && is_same(shown[k].lines, lines)));
       const commands = text.split("\n").map((line, at) => ({ line, at })).filter(({ line }) => !/^ *(#.*)?$/.test(line) && !/^ *(user|task) /.test(line));
       for (let at = 1; at <= commands.length; at++) {
         await value(`Page.go(${at})`);
         const upto = text.split("\n").slice(0, commands[at - 1].at + 1).filter(line => !/^# (see|from here)$/.test(line)).join("\n") + "\n", seen = program(sort, upto, who, "see").out.split("\n").filter(line => line);
         const rows = await value(`[...document.querySelectorAll("#sees tbody tr")].map(row => row.children[0].textContent + ": " + row.children[1].textContent)`);
-        says(`${file}, behind ${at}: all that is seen`, JSON.stringify(rows) === JSON.stringify(seen.map(line => line.replace(/^  [^:]* sees?: /, ""))));
+        says(`${file}, after ${at}: everything that is seen`, JSON.stringify(rows) === JSON.stringify(seen.map(line => line.replace(/^  [^:]* sees?: /, ""))));
         const drawn = await value(`document.querySelectorAll("#picture .node.open, #picture .node.rim").length`), nodes = seen.filter(line => /sees?: [/(]/.test(line) && !/^[^:]*: [^:]*\(server\): /.test(line)).length;
-        says(`${file}, behind ${at}: ${drawn} nodes are coloured, of ${nodes} seen`, drawn === nodes);
+        says(`${file}, after ${at}: ${drawn} nodes are coloured, of ${nodes} seen`, drawn === nodes);
       }
     }
 
-    // what is bad is told at its line, and nothing in a text becomes a part of the page
+    // a refusal differs from every text, also without colour; a name with a newline is shown as one name
+    const signs = "user alice 1000 1000\nroot put /a EACCES\\n!\\sEACCES\\n\\s\\sRefused\\sEACCES\nroot put /a\\nb\\n x\nroot put /b secret\nroot chmod 600 /b\nalice cat /a\nalice cat /b\nalice cat\nalice ls /\n";
+    await open(`script=${Buffer.from(signs).toString("base64url")}&who=alice`);
+    const lines_of = k => value(`[...document.querySelectorAll("#told .part")][${k}].innerText.split("\\n").slice(1).join("/") + [...document.querySelectorAll("#told .part")][${k}].querySelectorAll(".refused").length`);
+    const [of_text, of_refusal, of_usage, of_names] = [await lines_of(4), await lines_of(5), await lines_of(6), await lines_of(7)];
+    says(`signs: ${JSON.stringify([of_text, of_refusal, of_usage, of_names])}`, of_text === "| EACCES/| ! EACCES/|   Refused EACCES/\\ no newline0" && of_refusal === "! EACCES1" && of_usage === "! usage1" && of_names === "| a/| a\u21b5b\u21b5/| b0");
+    await open(`list=${Buffer.from("task 0 0\ntask 1 1\n1 dir_mkdir 1 =d 755\n0 dir_mkdir 1 =\\s\\sRefused\\sEACCES 755\n0 dir_lookup 1 = READ 0\n0 dir_readdir 3\n").toString("base64url")}&who=0`);
+    says("signs of a call list", await value(`[...document.querySelectorAll("#told .refused")].map(line => line.textContent).join()`) === "|   Refused EACCES" && (await value(`document.getElementById("told").textContent`)).includes("Refused\\sEACCES"));
+
+    // a bad text is reported at its line, and nothing in a text becomes a part of the page
     const fault = async (text, sort = "script") => { await open(`${sort}=${Buffer.from(text).toString("base64url")}`); return [await value("document.body.dataset.ready"), await value(`document.getElementById("fault").textContent`)]; };
     const bad = [["nobody cat /\n", 1], ["root ls /\nroot ls /\nnobody cat /", 3], ["root cat \\q\n", 1], ["root ls /\n<img\\ssrc=x\\sonerror=window.hit=1> <img src=x onerror=window.hit=1>\n", 2], ["task 0 0\n0 io_stat", 2, "list"], ["task 0 0\n0 <img/src=x/onerror=window.hit=1>\n", 2, "list"]];
     for (const [text, at, sort] of bad) {
-      const [is, why] = await fault(text, sort), what = sort ? "calls" : "script", told = new RegExp(`^hurd: standard input:${at}: (bad ${what}.*)`).exec(program(what, text, sort ? "0" : "root").errors);
-      says(`a bad line ${at}: ${is} ${why}`, is === "bad" && told && why.startsWith(`Line ${at}: ${told[1]}`) && why.endsWith(text.split("\n")[at - 1]) && await value(`[...document.querySelectorAll("#marks b")].findIndex(line => line.className === "bad")`) === at - 1);
+      const [is, why] = await fault(text, sort), said = new RegExp(`^hurd: standard input:${at}: (bad ${sort ? "call list" : "script"}: .*)`).exec(program(sort ? "calls" : "script", text, sort ? "0" : "root").errors);
+      says(`a bad line ${at}: ${is} ${why}`, is === "bad" && said && why.startsWith(`Line ${at}: ${said[1]}`) && why.endsWith(text.split("\n")[at - 1]) && await value(`[...document.querySelectorAll("#marks b")].findIndex(line => line.className === "bad")`) === at - 1);
       says("markup in a bad line was run", await value(`window.hit === undefined && document.querySelectorAll("#right img, #left img").length === 0`));
     }
     for (const text of ["root put /<img\\ssrc=x\\sonerror=window.hit=1> <script>window.hit=1</script>\nroot cat /<img\\ssrc=x\\sonerror=window.hit=1>\nroot ls /\n", "root put /x </script><script>window.hit=1</script>\nroot cat /x\n"]) {
@@ -214,12 +227,12 @@ async function main() {
     await value(`Page.open("#".repeat(1048577), "script", ["root"])`);
     says("a text that is too long", (await value(`document.getElementById("fault").textContent`)) === "Longer than 1048576 bytes." && await value(`document.querySelectorAll("#marks b.bad").length === 0`));
     for (const [sort, text, who] of [["script", "root ls /\n", "amy"], ["script", "root ls /\n", "<img src=x onerror=window.hit=1>"], ["calls", "task 0 0\n0 io_stat 1\n", "7"]]) {
-      const told = await value(`Machine.run(${JSON.stringify(text)}, ${JSON.stringify(["learns", sort, who])}).then(run => [run.status, new TextDecoder().decode(run.errors), Page.fault(run, ""), document.getElementById("fault").textContent])`), { errors } = program(sort, text, who);
-      says(`somebody who isn't in the text: ${told}`, told[0] === 1 && told[1] === errors && !told[2] && errors === `hurd: standard input: ${told[3][0].toLowerCase()}${told[3].slice(1, -1)}\n`);
+      const ran = await value(`Machine.run(${JSON.stringify(text)}, ${JSON.stringify(["learn", sort, who])}).then(run => [run.status, new TextDecoder().decode(run.errors), Page.fault(run, ""), document.getElementById("fault").textContent])`), { errors } = program(sort, text, who);
+      says(`somebody who isn't in the text: ${ran}`, ran[0] === 1 && ran[1] === errors && !ran[2] && errors === `hurd: standard input: ${ran[3][0].toLowerCase()}${ran[3].slice(1, -1)}\n`);
       says("somebody of the address who isn't in the text: " + who, await open(`${sort === "calls" ? "list" : "script"}=${Buffer.from(text).toString("base64url")}&who=${encodeURIComponent(who)}`) === "yes" && (await value(`document.getElementById("status").textContent`)).includes(`${who} isn't in the `) && await value(`document.querySelectorAll("#who input:checked").length === 1`));
       says("markup in a name was run", await value(`window.hit === undefined && document.querySelectorAll("#right img, #left img").length === 0`));
     }
-    says("a broken address", await open("script=%%%") === "yes" && /no whole script/.test(await value(`document.getElementById("status").textContent`)));
+    says("a broken address", await open("script=%%%") === "yes" && /incomplete/.test(await value(`document.getElementById("status").textContent`)));
     await open("example=learned-secret.hurd");
     await value(`document.getElementById("text").value = document.getElementById("text").value.replace(/alice/g, "amy"); Page.show()`);
     says("a user who is removed while she is chosen", await value(`[...document.querySelectorAll("#who input")].map(input => input.value).join()`) === "root,amy,bob");
@@ -236,14 +249,14 @@ async function main() {
     await value(`void Page.open(${JSON.stringify(seen)}, "script", ["alice"])`);
     await sleep(1000);
     await value(`Page.pick("welcome.hurd")`);
-    says("a long run is given up for another", await value("document.body.dataset.ready") === "yes" && await value(`document.querySelectorAll("#told .part").length`) === 3);
+    says("a long run ends when another begins", await value("document.body.dataset.ready") === "yes" && await value(`document.querySelectorAll("#told .part").length`) === 3);
     says("and the page goes on", await open("example=welcome.hurd") === "yes");
 
     // times: from the opening to the first picture, and a step of long scripts; medians of five
     const median = list => list.sort((a, b) => a - b)[Math.floor(list.length / 2)], times = async (what, make) => { const list = []; for (let k = 0; k < 5; k++) list.push(await make()); return `${what} ${Math.round(median(list))} ms`; };
     const opened = await times("the first picture", async () => { const began = Date.now(); await open("example=learned-secret.hurd"); return Date.now() - began; });
     const script = count => "user alice 1000 1000\nuser bob 1001 1001\nroot mkdir /d\nroot chmod 777 /d\n" + Array.from({ length: 100 }, (_, k) => `bob put /d/f${k} x\n`).join("") + Array.from({ length: count - 102 }, (_, k) => `bob put /d/f${k % 100} ${k}\n`).join("");
-    const long = await times("1,000 commands beside 100 seen files", async () => { const began = Date.now(); await value(`Page.open(${JSON.stringify(script(1000))}, "script", ["alice"])`); return Date.now() - began; });
+    const long = await times("1,000 commands with 100 seen files", async () => { const began = Date.now(); await value(`Page.open(${JSON.stringify(script(1000))}, "script", ["alice"])`); return Date.now() - began; });
     console.log(`page: ${opened}; ${long} (medians of five, on this machine)`);
 
     if (folder) {
@@ -253,7 +266,7 @@ async function main() {
         await shoot(name);
       }
       const keep = `document.getElementById("keep").click()`, pair = k => `document.querySelectorAll("#pairs button")[${k}].click()`;
-      for (const [name, width, height, dark, ...steps] of [["beside-none", 1280, 800, false], ["beside-otherwise", 1280, 800, false, pair(0)], ["beside-same", 1280, 800, true, pair(1)], ["beside-seen", 1280, 800, false, pair(3)], ["beside-dark", 1280, 800, true, pair(0)], ["beside-no-pair", 1280, 800, false, keep, `Page.pick("secret-told-otherwise.hurd").then(() => { Page.who = new Set(["bob"]); return Page.show(); })`], ["beside-bad", 1280, 800, false, keep, `$("text").value += "alice frob\\n"; Page.show()`], ["beside-phone", 390, 844, false, pair(0), `document.getElementById("tabs").scrollIntoView()`]]) {
+      for (const [name, width, height, dark, ...steps] of [["compare-none", 1280, 800, false], ["compare-different", 1280, 800, false, pair(0)], ["compare-same", 1280, 800, true, pair(1)], ["compare-seen", 1280, 800, false, pair(3)], ["compare-dark", 1280, 800, true, pair(0)], ["compare-not-comparable", 1280, 800, false, keep, `Page.pick("secret-told-otherwise.hurd").then(() => { Page.who = new Set(["bob"]); return Page.show(); })`], ["compare-bad", 1280, 800, false, keep, `$("text").value += "alice frob\\n"; Page.show()`], ["compare-phone", 390, 844, false, pair(0), `document.getElementById("tabs").scrollIntoView()`]]) {
         await size(width, height, dark);
         await open("example=secret-told.hurd&who=alice");
         for (const step of [`document.getElementById("tab-beside").click()`, ...steps]) { await value(step); await ready(); }

@@ -1,5 +1,5 @@
-// page-modules.js PAGE RANDOM: each script and list by the module of the page, and by `hurd learns` and `hurd see` of the program that HURD names: output,
-// standard error and status, for each user alone, for all, and for nobody; pairs of scripts by `hurd tell`; and want of memory.
+// page-modules.js PAGE RANDOM: runs each script and call list by the module of the page, and by `hurd learn` and `hurd see` of the program that HURD names. It
+// compares output, standard error and status, for each user alone, for all, and for nobody; likewise pairs of scripts by `hurd compare`. Then it refuses memory.
 "use strict";
 const { mkdtempSync, readFileSync, readdirSync, rmSync, writeFileSync } = require("node:fs");
 const { execFile } = require("node:child_process");
@@ -10,7 +10,7 @@ const module_of_page = new WebAssembly.Module(Buffer.from(/id="module">([^<]*)</
 let passed = 0, failed = 0;
 const says = (what, good) => { if (good) passed++; else if (failed++ < 10) console.log("page: differs: " + what); };
 
-// the module, with three words, or with others
+// runs the module, with three arguments, or with others
 function by_module(text, words, { pages, request } = {}) {
   const { exports } = new WebAssembly.Instance(module_of_page, {});
   const put = bytes => { const at = exports.room(BigInt(bytes.length + 1)); new Uint8Array(exports.memory.buffer).set(bytes, Number(at)); return [at, BigInt(bytes.length)]; };
@@ -28,37 +28,37 @@ const run_program = (words, text) => new Promise(done => {
   ran.stdin.end(text);
 });
 
-// two texts as files, which standard error then calls as the module does
+// compares two texts in files; standard error then names them as the module does
 const folder = mkdtempSync(join(tmpdir(), "page-"));
 let pairs = 0;
-async function tell_program(one, two, who) {
+async function compare_program(one, two, who) {
   const first = join(folder, `one-${++pairs}`), second = join(folder, `two-${pairs}`);
   writeFileSync(first, one);
   writeFileSync(second, two);
-  const told = await run_program(["tell", who, first, second], "");
+  const ran = await run_program(["compare", who, first, second], "");
   for (const file of [first, second]) rmSync(file);
-  return { ...told, errors: Buffer.from(told.errors.toString("latin1").replaceAll(first, "the first script").replaceAll(second, "standard input"), "latin1") };
+  return { ...ran, errors: Buffer.from(ran.errors.toString("latin1").replaceAll(first, "the first script").replaceAll(second, "standard input"), "latin1") };
 }
 
-const by_program = (text, [verb, word, who]) => verb === "tell" ? tell_program(word, text, who) : run_program([verb, ...(word === "calls" ? ["--calls"] : []), who, "-"], text);
+const by_program = (text, [verb, word, who]) => verb === "compare" ? compare_program(word, text, who) : run_program([verb, ...(word === "calls" ? ["--calls"] : []), who, "-"], text);
 
-// words that ask nothing: nothing is printed, and the status is 2
+// arguments that ask nothing: the module prints nothing, and the status is 2
 const nothing = { status: 2, out: Buffer.alloc(0), errors: Buffer.alloc(0) };
 const is_text = word => Buffer.from(word).equals(Buffer.from(Buffer.from(word).toString()));
-const asks = words => words.length > 2 && words.every(is_text) && (words[0] === "tell" || (["learns", "see"].includes(words[0]) && ["script", "calls"].includes(words[1])));
+const asks = words => words.length > 2 && words.every(is_text) && (words[0] === "compare" || (["learn", "see"].includes(words[0]) && ["script", "calls"].includes(words[1])));
 const is_same = (one, other) => one.status === other.status && one.out.equals(other.out) && one.errors.equals(other.errors);
 
 const runs = [];
-const compare = (sort, file, text, everybody) => { for (const who of everybody) for (const verb of ["learns", "see"]) runs.push({ file, text, words: [verb, sort, who] }); };
-const compare_pair = (file, one, two, everybody) => { for (const who of everybody) runs.push({ file, text: Buffer.from(two), words: ["tell", one, who] }); };
-const told = { 0: 0, 1: 0, 2: 0, 3: 0 }; // how many pairs ended with each status
+const compare = (sort, file, text, everybody) => { for (const who of everybody) for (const verb of ["learn", "see"]) runs.push({ file, text, words: [verb, sort, who] }); };
+const compare_pair = (file, one, two, everybody) => { for (const who of everybody) runs.push({ file, text: Buffer.from(two), words: ["compare", one, who] }); };
+const ended = { 0: 0, 1: 0, 2: 0, 3: 0 }; // how many pairs ended with each status
 
 // as many programs at once as there are processors
 async function compare_all() {
   const work = async () => {
     for (let run = runs.pop(); run; run = runs.pop()) {
       const { file, text, words } = run, other = asks(words) ? await by_program(text, words) : nothing, one = by_module(text, words);
-      if (words[0] === "tell" && asks(words)) told[one.status]++;
+      if (words[0] === "compare" && asks(words)) ended[one.status]++;
       says(`${file}, ${words.map(word => String(word).slice(0, 40)).join(" ")}: status ${one.status} for ${other.status}, ${JSON.stringify(one.errors.toString().slice(0, 100))} for ${JSON.stringify(other.errors.toString().slice(0, 100))}`, is_same(one, other));
     }
   };
@@ -78,21 +78,21 @@ for (const file of [...files("examples", ".calls"), ...files("tests/calls", ".ca
   compare("calls", basename(file), text, [...tasks, tasks.join(","), "64", ""]);
 }
 
-// a megabyte of comments, one byte more, a script that is bad at its first and at its last line, and bytes that are no text
+// a megabyte of comments, one byte more, scripts that are bad at the first and at the last line, and bytes that are not text
 const long = "#".repeat(1048575) + "\n";
 for (const text of [long, long + "\n", "nobody cat /\n", "root ls /\n".repeat(2000) + "nobody cat /", "", "\0", Buffer.from([0xff, 0xfe, 10])]) compare("script", "made by hand", Buffer.from(text), ["root"]);
 for (const text of [long, long + "\n", "task 0 0\n0 io_stat", "task 0 0\n" + "0 io_stat 1\n".repeat(2000) + "0 io_stat", "", "\0", Buffer.from([0xff, 0xfe, 10])]) compare("calls", "made by hand", Buffer.from(text), ["0"]);
 
-// names of which standard error has escapes, and some that are as long as what the module first keeps of that, or longer; a text of the other sort; words that ask nothing
+// names that have escapes on standard error; names as long as the buffer that the module first has for it, or longer; a text of the other sort; arguments that ask nothing
 const script = readFileSync("examples/welcome.hurd"), list = readFileSync("examples/learned-cut.calls");
 const names = ["a b", "<img src=x>", "root,", ",", "root,root", "\n\t\\", "\u202e\u00e9\u{1f600}", ...[4060, 4061, 100000].map(count => "x".repeat(count))];
 compare("script", "welcome.hurd", script, names);
 compare("calls", "learned-cut.calls", list, names);
 compare("calls", "welcome.hurd", script, ["0"]);
 compare("script", "learned-cut.calls", list, ["root"]);
-for (const words of [[], ["learns"], ["script", "root"], ["learns", "script"], ["see", "calls"], ["learns", "list", "root"], ["draw", "script", "root"], ["tell", ""], ["tell", Buffer.from([0xff]), "root"], ["", "", ""]]) runs.push({ file: "welcome.hurd", text: script, words });
+for (const words of [[], ["learn"], ["script", "root"], ["learn", "script"], ["see", "calls"], ["learn", "list", "root"], ["draw", "script", "root"], ["learns", "script", "root"], ["tell", script, "root"], ["compare", ""], ["compare", Buffer.from([0xff]), "root"], ["", "", ""]]) runs.push({ file: "welcome.hurd", text: script, words });
 
-// pairs of scripts: examples in both orders and beside themselves, and each example beside the next
+// pairs of scripts: examples in both orders and with themselves, and each example with the next
 const example = name => readFileSync(`examples/${name}.hurd`, "utf8"), with_returns = text => text.replaceAll("\n", "\r\n");
 for (const [one, two] of [["secret-told", "secret-told-otherwise"], ["secret-kept-one", "secret-kept-two"], ["unseen-one", "unseen-two"], ["started-by-alice", "started-by-bob"]]) {
   const users = users_of(example(one)), everybody = [...users, users.join(","), "alice,bob", "bob,alice", "alice,alice", "nobody", "alice,nobody", "a b", "<img src=x>", ""];
@@ -102,7 +102,7 @@ for (const [one, two] of [["secret-told", "secret-told-otherwise"], ["secret-kep
 const names_of_examples = files("examples", ".hurd").map(file => basename(file, ".hurd"));
 names_of_examples.forEach((one, k) => compare_pair(`${one}.hurd and the next`, example(one), example(names_of_examples[(k + 1) % names_of_examples.length]), ["root", "alice"]));
 
-// other users or ids of theirs, a command more, another, and one that is written otherwise; texts that are bad, empty, without commands, or too long
+// other users or ids, one more command, another command, and the same command written differently; texts that are bad, empty, without commands, or too long
 const good = "user alice 1000 1000\nroot mkdir /tmp\nalice ls /\nroot ls /\n", put = "user alice 1000 1000\nroot put /x ";
 const others = [good.replace("1000 1000", "1001 1000"), good.replace("1000 1000", "1000 -"), good.replaceAll("alice", "amy"), good.replace("user", "user bob 1001 1001\nuser"), good.replace("alice 1000", "alice 1000,1001"), good + "alice ls /\n", good + "# alice ls /\n", good + "root ls /\n",
   good.replace("alice ls /", " alice  ls   /"), good.replace("ls /", "ls -d /"), good.replace("/tmp", "/tmq"), good + "alice frob\n", "nobody cat /\n", good + "alice cat \\q", good + "alice cat \u00e9\u{1f600}\u202e\n", with_returns(good), "", "\n", "# see\n", "\0", "user alice 1000 1000\n", long, long + "\n", good + long];
@@ -110,10 +110,14 @@ for (const other of others) {
   for (const [one, two] of [[good, other], [other, good]]) compare_pair("made by hand", one, two, ["alice", "root", "alice,root", "nobody", ""]);
   compare_pair("made by hand", other, other, ["alice", "root"]);
 }
-for (const [one, two] of [["one\\n", "one"], ["one", "one\\n"], ["a\\nb\\n", "b\\na\\n"], ["\\s", "\\n"], ["the\\nsecond:\\sx\\n", "|\\sx\\n"]]) compare_pair("made by hand", `${put}${one}\nalice cat /x\n`, `${put}${two}\nalice cat /x\n`, ["alice", "root"]);
+for (const [one, two] of [["one\\n", "one"], ["one", "one\\n"], ["a\\nb\\n", "b\\na\\n"], ["\\s", "\\n"], ["the\\nsecond:\\sx\\n", "|\\sx\\n"], ["EACCES\\n", "!\\sEACCES\\n"]]) compare_pair("made by hand", `${put}${one}\nalice cat /x\n`, `${put}${two}\nalice cat /x\n`, ["alice", "root"]);
 
-// the script where somebody puts another text, one that another reads behind that if there is such, and who does
-function put_otherwise(text, which) {
+// replies that differ although they print alike: a text that is the name of an error, and one name or two
+compare_pair("made by hand", `${put}EACCES\\n\nalice cat /x\n`, `${put}EACCES\\n\nroot chmod 600 /x\nalice cat /x\n`, ["alice", "root"]);
+compare_pair("made by hand", "user alice 1000 1000\nroot put /a\\nb x\nalice ls /\n", "user alice 1000 1000\nroot put /a x\nroot put /b x\nalice ls /\n", ["alice", "root"]);
+
+// the script with another text in one put, and who puts it; if possible, in a put that another user reads later
+function put_other(text, which) {
   const all = text.split("\n"), puts = all.flatMap((line, at) => /^[a-z0-9]+ put [^ ]+ [^ ]+$/.test(line) ? [at] : []);
   const read = puts.filter(at => { const [who, , node] = all[at].split(" "); return all.slice(at).some(line => line.endsWith(" cat " + node) && !line.startsWith(who + " ")); });
   const some = read.length ? read : puts, at = some[which % some.length];
@@ -124,46 +128,47 @@ function put_otherwise(text, which) {
 
 let changed = 0;
 files(random, ".hurd").forEach((file, k) => {
-  const one = readFileSync(file, "utf8"), other = changed < 100 && put_otherwise(one, k), users = users_of(one);
+  const one = readFileSync(file, "utf8"), other = changed < 100 && put_other(one, k), users = users_of(one);
   if (!other) return;
   changed++;
   compare_pair(`${basename(file)}, where ${other.who} puts another text`, one, other.text, [...users, users.filter(name => name !== other.who).join(",")]);
 });
 says(`${changed} random scripts were changed`, changed === 100);
 
-// want of memory: the status 2, a front of the output, and why on standard error, or the whole output, where the program did without; each request of some small texts is refused in turn, and some great ones get fewer and fewer pages
+// Without memory, a run has status 2, prints a beginning of the output, and says why on standard error; or it prints the whole output if it needed no more memory.
+// Each request for memory in runs of some small texts is refused in turn; runs of some large texts get fewer and fewer pages.
 let refused = 0;
 function refuses(text, words, whole, how) {
   const run = by_module(text, words, how), line = run.errors.toString("latin1");
-  const is_told = run.status === 2 && whole.out.subarray(0, run.out.length).equals(run.out) && (line === "hurd: out of memory\n" || (!how.request && line === "hurd: cannot write\n"));
-  says(`${words.map(word => word.slice(0, 40)).join(" ")} with ${JSON.stringify(how)}: status ${run.status}, ${JSON.stringify(line.slice(0, 100))}`, is_told || is_same(run, whole));
+  const is_refused = run.status === 2 && whole.out.subarray(0, run.out.length).equals(run.out) && (line === "hurd: out of memory\n" || (!how.request && line === "hurd: cannot write\n"));
+  says(`${words.map(word => word.slice(0, 40)).join(" ")} with ${JSON.stringify(how)}: status ${run.status}, ${JSON.stringify(line.slice(0, 100))}`, is_refused || is_same(run, whole));
   if (run.status === 2) refused++;
 }
 
 function refuse_memory() {
   const before = failed, bytes = "x".repeat(3000);
-  const bad = good + "alice frob\n", no_pair = good.replace("ls /", "ls -d /"), small = [["examples/hello.hurd", "script", "alice"], ["examples/union.hurd", "script", "root"], ["examples/learned-cut.calls", "calls", "1"]];
-  const asked = small.flatMap(([file, ...words]) => ["learns", "see"].map(verb => [readFileSync(file), verb, ...words]));
-  for (const [one, two, who] of [[example("secret-told"), example("secret-told-otherwise"), "alice,guest"], [example("started-by-alice"), example("started-by-bob"), "alice"], [good, no_pair, "alice"], [good, bad, "alice"], [bad, good, "alice"], [good, good, "nobody"]]) asked.push([two, "tell", one, who]);
+  const bad = good + "alice frob\n", different = good.replace("ls /", "ls -d /"), small = [["examples/hello.hurd", "script", "alice"], ["examples/union.hurd", "script", "root"], ["examples/learned-cut.calls", "calls", "1"]];
+  const asked = small.flatMap(([file, ...words]) => ["learn", "see"].map(verb => [readFileSync(file), verb, ...words]));
+  for (const [one, two, who] of [[example("secret-told"), example("secret-told-otherwise"), "alice,guest"], [example("started-by-alice"), example("started-by-bob"), "alice"], [good, different, "alice"], [good, bad, "alice"], [bad, good, "alice"], [good, good, "nobody"]]) asked.push([two, "compare", one, who]);
   for (const [text, ...words] of asked) {
     const whole = by_module(text, words);
     for (let request = 1; request <= whole.requests; request++) refuses(text, words, whole, { request });
   }
   const script = "user alice 1000 1000\n" + Array.from({ length: 250 }, (_, k) => `root put /f${k} ${bytes}\n`).join("") + "alice ls /\nalice cat /f7\n# see\n";
   const list = "task 0 0\ntask 1000 1000\n" + Array.from({ length: 120 }, (_, k) => `0 dir_lookup 1 =f${k} CREATE,WRITE 644\n0 io_write ${k + 3} =${bytes} 0\n`).join("") + "1 dir_lookup 1 = READ 0\n# see\n";
-  for (const [made, ...words] of [[script, "learns", "script", "alice"], [script, "learns", "script", "root"], [list, "learns", "calls", "1"], [script, "see", "script", "alice"], [list, "see", "calls", "1"], [script, "tell", script.replace("/f7 xx", "/f7 yy"), "alice"]]) {
+  for (const [made, ...words] of [[script, "learn", "script", "alice"], [script, "learn", "script", "root"], [list, "learn", "calls", "1"], [script, "see", "script", "alice"], [list, "see", "calls", "1"], [script, "compare", script.replace("/f7 xx", "/f7 yy"), "alice"]]) {
     const text = Buffer.from(made), whole = by_module(text, words), floor = new WebAssembly.Instance(module_of_page, {}).exports.memory.buffer.byteLength / 65536;
-    says(`${words.map(word => word.slice(0, 40)).join(" ")} with ample memory: status ${whole.status}`, whole.status === (words[0] === "tell" ? 3 : 0) && !whole.errors.length);
+    says(`${words.map(word => word.slice(0, 40)).join(" ")} with ample memory: status ${whole.status}`, whole.status === (words[0] === "compare" ? 3 : 0) && !whole.errors.length);
     for (let pages = floor + 24; pages <= whole.pages; pages += 4) refuses(text, words, whole, { pages });
   }
   says("memory was refused in no run", refused > 20);
-  console.log(`page: memory refused ${refused} times, ${failed - before} answered otherwise than by the program's lines`);
+  console.log(`page: memory refused ${refused} times, ${failed - before} runs ended in a wrong way`);
 }
 
 compare_all().then(() => {
   rmSync(folder, { recursive: true });
-  console.log(`page: ${passed} runs as the program runs, ${failed} otherwise; of pairs ${told[0]} are told the same, ${told[3]} otherwise, ${told[1]} are none or bad, ${told[2]} in trouble`);
-  says("pairs of each sort", told[0] > 100 && told[3] > 30 && told[1] > 100);
+  console.log(`page: ${passed} runs like those of the program, ${failed} different; of the pairs, ${ended[0]} get the same replies, ${ended[3]} a different reply, ${ended[1]} are not comparable or bad, ${ended[2]} failed`);
+  says("pairs of each sort", ended[0] > 100 && ended[3] > 30 && ended[1] > 100);
   refuse_memory();
   process.exit(failed ? 1 : 0);
 });

@@ -19,8 +19,8 @@ HEAD = """digraph hurd {
   node [fontname="Helvetica", fontsize=13, style=filled, fillcolor=white];
   edge [fontname="Helvetica", fontsize=11, arrowsize=0.7];
 """
-# what may stand in a label: an entity, two backslashes for each that is shown, an escape, or a plain byte
-LABEL = r"(?:&(?:amp|lt|gt|quot);|\\\\\\\\|\\n|\\x[0-9a-f]{2}|[ !#$%'-;=?-\[\]-~])+"
+# what a label may have: an entity, two backslashes for each that is shown, an escape, or a plain byte; so no `]`, which Graphviz may take for an end of its own
+LABEL = r"(?:&(?:amp|lt|gt|quot|#93);|\\\\\\\\|\\n|\\x[0-9a-f]{2}|[ !#$%'-;=?-\[^-~])+"
 NAME = r"[0-9]+_[0-9]+"
 BOX = rf"subgraph cluster_({NAME}) \{{ cluster=true; "
 STUB = ' [shape=box, style="filled,dashed", label='

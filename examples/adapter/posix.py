@@ -1,14 +1,16 @@
 #!/usr/bin/env python3
-"""Runs scripts as system calls of Linux, and compares them with what `hurd run` prints.
+"""Runs scripts as system calls of Linux, and compares the replies with those of the program hurd.
 
     examples/adapter/posix.py [--hurd PROGRAM] [--show N] [--leave-out] SCRIPT..
 
-Each script runs on a fresh tmpfs, each command in a process of its own, with the ids of its user and umask 0. An answer is what a command prints, and the name of
-the error that refuses it. Where an answer differs, the difference is of a class that docs/COMPARED.md names, or of none: then the status is 1. Where both refuse,
-the two trees are still alike, and the script goes on; else it ends there, and so does one by whose difference the trees are no longer alike.
+Each script runs on a fresh tmpfs. Each command runs in a process of its own, with the ids of its user and umask 0. A reply is the bytes that a command puts out, and
+the name of the error that refuses it. hurd's replies are read from `hurd learn root -`, whose marks tell texts from refusals. If two replies differ, the difference
+is of a class that docs/COMPARED.md names; if it is of none, the status is 1. If both sides refuse, the two trees are still alike, and the script goes on. It ends
+at any other difference that leaves the trees unlike.
 
-Scripts with translators, and with users without ids, are passed over: Linux has neither. With --leave-out commands for translators are left out of a script on both
-sides instead. It wants root, to mount and to be other users; else it says so, and status is 77. It is an example of an adapter: docs/VECTORS.md, *An adapter in five steps*.
+Scripts with translators are passed over, and scripts with users whom Linux cannot have: users without ids, or with the id 4294967295. With --leave-out commands for
+translators are left out of a script on both sides instead. The adapter needs root, to mount and to become other users; without root it says so, and the status is
+77. It is an example of an adapter: docs/VECTORS.md, *An adapter in five steps*.
 """
 import argparse
 import collections
@@ -18,14 +20,21 @@ import stat
 import subprocess
 import sys
 import tempfile
+import traceback
 
 TOP = os.path.dirname(os.path.dirname(os.path.dirname(os.path.abspath(__file__))))
 NOT_RUN = 77
 SERVERS = ("settrans", "showtrans", "fsysopts")
 ESCAPES = {"s": " ", "n": "\n", "\\": "\\"}
 KINDS = {stat.S_IFREG: "-", stat.S_IFDIR: "d"}
+NO_CHANGE = 4294967295
+USAGE = "usage"
+OPTIONS = "mode=755,size=64m,nosuid,nodev,noexec"
 READS = 65536
 MOST_READS = 16
+
+# What a command put out, as bytes, and the name of the error that refused it, if one did. Of a listing, each name ends with a zero byte.
+Reply = collections.namedtuple("Reply", "out refusal")
 
 
 # A script, as docs/PROFILE.md has it.
@@ -59,16 +68,50 @@ def users_of(lines):
     return users
 
 
-def parts_of(transcript, commands):
-    """What a transcript says of each command, behind its first line."""
-    parts, left = [], transcript.split(b"\n")
-    heads = [words[0].encode() + b"$ " + " ".join(words[1:]).encode("latin-1") for words in commands]
-    for following in [*heads[1:], None]:
-        left = left[1:]
-        end = left.index(following) if following in left else len(left)
-        parts.append(b"\n".join(left[:end]).strip(b"\n"))
-        left = left[end:]
-    return parts
+# The replies of hurd, as `hurd learn` prints them.
+
+
+def is_listing(command, words):
+    """Whether a command lists a directory."""
+    return command == "ls" and b"-d" not in words
+
+
+def names_in(lines):
+    """The names that a listing prints: each begins on a line with one mark, and goes on after each newline on a line with another."""
+    names = []
+    for line in lines:
+        if line.startswith(b"| "):
+            names.append(line[2:])
+        elif line.startswith(b": "):
+            names[-1] += b"\n" + line[2:]
+    return names
+
+
+def text_in(lines):
+    """The bytes that a command prints."""
+    text = b"".join(line[2:] + b"\n" for line in lines if line.startswith(b"| "))
+    return text[:-1] if b"\\ no newline" in lines else text
+
+
+def reply_in(lines, listing):
+    """The reply that these lines after a command's own show."""
+    refusals = [line[2:].decode("ascii") for line in lines if line.startswith(b"! ")]
+    out = listed_as(names_in(lines)) if listing else text_in(lines)
+    return Reply(out, refusals[0] if refusals else None)
+
+
+def replies_of(printed, commands):
+    """The reply to each command. Each has a paragraph, which an empty line ends; all lines but the first have a mark, so no text can end one."""
+    paragraphs = printed.split(b"\n\n")
+    if len(paragraphs) != len(commands) + 1:
+        raise ValueError(f"{len(paragraphs) - 1} paragraphs for {len(commands)} commands")
+    replies = []
+    for words, paragraph in zip(commands, paragraphs):
+        head, *lines = paragraph.split(b"\n")
+        if not head.startswith(words[0].encode() + b"$ " + words[1].encode()):
+            raise ValueError(f"the paragraph of another command: {head!r:.120}")
+        replies.append(reply_in(lines, is_listing(words[1], [word_of(word) for word in words[2:]])))
+    return replies
 
 
 # A command, as system calls. The process has the tree as its root.
@@ -76,10 +119,10 @@ def parts_of(transcript, commands):
 
 def shown(path):
     """The line of `ls -d`: a directory's links and size are not compared."""
-    told = os.lstat(path)
-    is_dir = stat.S_ISDIR(told.st_mode)
-    words = (told.st_mode & 0o7777, 1 if is_dir else told.st_nlink, told.st_uid, told.st_gid, 0 if is_dir else told.st_size)
-    return ("%s%06o %d %d %d %d\n" % (KINDS[stat.S_IFMT(told.st_mode)], *words)).encode()
+    got = os.lstat(path)
+    is_dir = stat.S_ISDIR(got.st_mode)
+    words = (got.st_mode & 0o7777, 1 if is_dir else got.st_nlink, got.st_uid, got.st_gid, 0 if is_dir else got.st_size)
+    return ("%s%06o %d %d %d %d\n" % (KINDS[stat.S_IFMT(got.st_mode)], *words)).encode()
 
 
 def read_all(path):
@@ -101,8 +144,12 @@ def put(path, text):
 
 
 def listed(path):
-    names = os.listdir(os.open(path, os.O_RDONLY | os.O_DIRECTORY))
-    return b"".join(name + b"\n" for name in sorted(map(os.fsencode, names)))
+    return listed_as(map(os.fsencode, os.listdir(os.open(path, os.O_RDONLY | os.O_DIRECTORY))))
+
+
+def listed_as(names):
+    """The names of a listing, sorted, since their order is not compared. Each ends with a zero byte, which no name has."""
+    return b"".join(name + b"\0" for name in sorted(names))
 
 
 def at(path):
@@ -111,19 +158,19 @@ def at(path):
 
 
 def cut(path):
-    """A path whose last name is taken for itself: slashes behind it go."""
+    """A path whose last name is taken for itself: slashes after it go."""
     return at(path).rstrip(b"/") or b"/"
 
 
 def done(command, words):
-    """Does a command; what it prints."""
+    """Does a command, and returns what it puts out."""
     out = b""
     if command == "cat":
         out = read_all(at(words[0]))
-    elif command == "ls" and b"-d" in words:
-        out = shown(at(next(word for word in words if word != b"-d")))
-    elif command == "ls":
+    elif is_listing(command, words):
         out = listed(at(words[0]))
+    elif command == "ls":
+        out = shown(at(next(word for word in words if word != b"-d")))
     elif command == "put":
         put(at(words[0]), words[1])
     elif command == "mkdir":
@@ -144,48 +191,51 @@ def done(command, words):
 
 
 def become(tree, uids, gids):
-    """The process is this user's, and sees the tree alone."""
+    """Makes the process this user's, with the tree as its root. Fails unless the process has these ids and no others."""
     os.chroot(tree)
     os.chdir("/")
     os.umask(0)
     os.setgroups(gids)
     os.setresgid(gids[0], gids[0], gids[0])
     os.setresuid(uids[0], uids[0], uids[0])
+    if (os.getresuid(), os.getresgid(), sorted(os.getgroups())) != ((uids[0],) * 3, (gids[0],) * 3, sorted(gids)):
+        raise RuntimeError(f"the process has other ids than {uids[0]} and {gids}")
 
 
-def told(tree, ids, command, words):
-    """What a command of this user prints in the tree, or its error's name."""
+def replied(command, words):
+    """The reply to a command."""
     try:
-        become(tree, *ids)
-        return done(command, words)
+        return Reply(done(command, words), None)
     except OSError as refused:
-        return errno.errorcode[refused.errno].encode()
+        return Reply(b"", errno.errorcode[refused.errno])
 
 
-def answer(tree, ids, command, words):
-    """The same, by a process of its own."""
+def reply_by(tree, ids, command, words):
+    """The reply to a command of this user in the tree, given in a process of its own: that writes the error's name, a newline, and what the command puts out."""
     reader, writer = os.pipe()
     child = os.fork()
     if child == 0:
+        status = 1
         try:
             os.close(reader)
-            os.write(writer, told(tree, ids, command, words))
+            become(tree, *ids)
+            out, refusal = replied(command, words)
+            with os.fdopen(writer, "wb") as pipe:
+                pipe.write((refusal or "").encode() + b"\n" + out)
+            status = 0
+        except BaseException:  # nothing of the child may go on in the parent's code
+            traceback.print_exc()
         finally:
-            os._exit(0)
+            os._exit(status)
     os.close(writer)
     with os.fdopen(reader, "rb") as pipe:
-        out = pipe.read()
-    os.waitpid(child, 0)
-    return out.strip(b"\n")
+        refusal, _, out = pipe.read().partition(b"\n")
+    if os.waitpid(child, 0)[1] != 0:
+        raise RuntimeError(f"no reply to {command} {words!r:.120} as {ids}")
+    return Reply(out, refusal.decode() or None)
 
 
 # Where they differ.
-
-
-def refusal(out):
-    """The error's name with which an answer ends, if it is refused."""
-    last = out.split(b"\n")[-1].decode("latin-1")
-    return last if last in errno.errorcode.values() else None
 
 
 def is_bare(path):
@@ -194,8 +244,8 @@ def is_bare(path):
 
 
 def class_of(command, words, here, there):
-    """The class of a difference, by docs/COMPARED.md; none if it is of none."""
-    ours, theirs = refusal(here), refusal(there)
+    """The class of a difference, by docs/COMPARED.md; None if it is of none."""
+    ours, theirs = here.refusal, there.refusal
     nodes = words[-2:] if command in ("ln", "mv") else words[:1]
     if ours == "EINVAL" and theirs and command in ("mkdir", "rm", "rmdir", "ln", "mv") and any(map(is_bare, nodes)):
         return "a name that is none"
@@ -205,16 +255,16 @@ def class_of(command, words, here, there):
         return "a second name for a directory"
     if ours == "EACCES" and command in ("mkdir", "rm", "rmdir", "ln", "mv") and theirs:
         return "what may not be changed comes first"
-    if command == "ls" and b"-d" in words and not ours and not theirs and has_greatest(here):
+    if command == "ls" and b"-d" in words and not ours and not theirs and has_greatest(here.out):
         return "the greatest number as an owner or a group"
-    if command == "ls" and b"-d" in words and not ours and not theirs and is_told(here, there):
+    if command == "ls" and b"-d" in words and not ours and not theirs and has_other_group(here.out, there.out):
         return "groups, and bits of modes"
     if command == "chown" and ours is None and theirs == "EPERM":
         return "a group that one has not"
     if command == "ln" and ours is None and theirs == "EPERM":
         return "hard links that are protected"
     if any(word.endswith(b"/") for word in nodes) and len(cut(nodes[-1])) > 1:
-        return "a slash behind a path"
+        return "a slash after a path"
     if command == "mv" and ours == "EACCES" and theirs is None:
         return "two names of one file"
     if command == "mv" and ours is None and theirs == "EACCES":
@@ -229,8 +279,8 @@ def has_greatest(line):
     return b"4294967295" in line.split(b" ")[2:4]
 
 
-def is_told(here, there):
-    """Whether two lines of `ls -d` differ in the group and in the bits of the mode above 7777 alone."""
+def has_other_group(here, there):
+    """Whether two lines of `ls -d` differ only in the group and in the bits of the mode above 7777."""
     ours, theirs = here.decode("latin-1").split(" "), there.decode("latin-1").split(" ")
     if len(ours) != 5 or len(theirs) != 5:
         return False
@@ -247,7 +297,7 @@ class Comparison:
         self.unnamed = []
 
     def compare(self, name, number, command, words, here, there):
-        """Counts an answer; whether the two trees are still alike."""
+        """Counts a reply; returns whether the two trees are still alike."""
         if here == there:
             self.same += 1
             return True
@@ -255,17 +305,21 @@ class Comparison:
         if kind is None:
             self.unnamed.append((name, number, command, words, here, there))
         self.classes[kind or "of no class"] += 1
-        both_told = refusal(here) is None and refusal(there) is None
-        return (refusal(here) is not None and refusal(there) is not None) or (both_told and command in ("ls", "cat"))
+        refusals = (here.refusal, there.refusal)
+        return None not in refusals or (refusals == (None, None) and command in ("ls", "cat"))
 
 
 def is_for_servers(words):
-    """Whether a line asks for something that Linux hasn't: translators."""
+    """Whether a line asks for translators, which Linux doesn't have."""
     return words[0] != "user" and words[1] in SERVERS
 
 
-def runs_elsewhere(lines, users):
-    """Whether Linux has all that a script asks for."""
+def has_all(name, lines, users):
+    """Whether Linux has all that a script asks for. It says so if no process can have a user's ids: Linux takes 4294967295 for *no change*."""
+    for user, (uids, gids) in users.items():
+        if NO_CHANGE in (*uids, *gids):
+            print(f"{name}: passed over: no process of Linux can have the ids of {user}, as {NO_CHANGE} is among them")
+            return False
     return not any(map(is_for_servers, lines)) and all(uids and gids for uids, gids in users.values())
 
 
@@ -278,31 +332,26 @@ def run(hurd, script, tree, comparison, leaves_out):
     users = users_of(lines)
     commands = [words for words in lines if words[0] != "user"]
     text = "".join(" ".join(words) + "\n" for words in lines).encode("latin-1")
-    ran = subprocess.run([hurd, "run", "-"], input=text, stdout=subprocess.PIPE, stderr=subprocess.DEVNULL, check=False)
-    if ran.returncode or not runs_elsewhere(lines, users):
+    ran = subprocess.run([hurd, "learn", "root", "-"], input=text, stdout=subprocess.PIPE, stderr=subprocess.DEVNULL, check=False)
+    if ran.returncode or not has_all(script, lines, users):
         comparison.passed_over += 1
         return
     comparison.scripts += 1
-    for number, (words, here) in enumerate(zip(commands, parts_of(ran.stdout, commands))):
-        told = [word_of(word) for word in words[2:]]
-        if here == b"usage":
+    for number, (words, here) in enumerate(zip(commands, replies_of(ran.stdout, commands))):
+        if here.refusal == USAGE:
             continue
-        there = answer(tree, users[words[0]], words[1], told)
-        if words[1] == "ls" and b"-d" not in told:
-            here, there = in_order(here), in_order(there)
-        if not comparison.compare(script, number, words[1], told, here, there):
+        spelt = [word_of(word) for word in words[2:]]
+        there = reply_by(tree, users[words[0]], words[1], spelt)
+        if not comparison.compare(script, number, words[1], spelt, here, there):
             return
 
 
-def in_order(names):
-    """Lines in their order: that of names is not compared, and a name may have several."""
-    return b"\n".join(sorted(names.split(b"\n")))
-
-
 def on_a_tree(hurd, script, comparison, leaves_out):
-    """The same on a fresh tmpfs."""
-    with tempfile.TemporaryDirectory(prefix="hurd-adapter-") as tree:
-        subprocess.run(["mount", "-t", "tmpfs", "-o", "mode=755", "none", tree], check=True)
+    """The same on a fresh tmpfs. It lies in a folder that only root may enter."""
+    with tempfile.TemporaryDirectory(prefix="hurd-adapter-") as folder:
+        tree = os.path.join(folder, "tree")
+        os.mkdir(tree)
+        subprocess.run(["mount", "-t", "tmpfs", "-o", OPTIONS, "none", tree], check=True)
         try:
             run(hurd, script, tree, comparison, leaves_out)
         finally:
@@ -312,23 +361,23 @@ def on_a_tree(hurd, script, comparison, leaves_out):
 def main():
     words = argparse.ArgumentParser(description=__doc__.split("\n")[0])
     words.add_argument("--hurd", default=os.path.join(TOP, "crates", "hurd", "out", "hurd"))
-    words.add_argument("--show", type=int, default=10, help="how many differences of no class are shown")
-    words.add_argument("--leave-out", action="store_true", help="commands for translators are left out, here and there")
+    words.add_argument("--show", type=int, default=10, help="how many differences of no class to show")
+    words.add_argument("--leave-out", action="store_true", help="leave out commands for translators, here and there")
     words.add_argument("scripts", nargs="+")
     asked = words.parse_args()
     if os.geteuid() != 0:
-        print("not run: it wants root, to mount a tmpfs and to be other users")
+        print("not run: it needs root, to mount a tmpfs and to become other users")
         return NOT_RUN
     comparison = Comparison()
     for script in asked.scripts:
         on_a_tree(os.path.abspath(asked.hurd), script, comparison, asked.leave_out)
     with open("/proc/sys/fs/protected_hardlinks", encoding="ascii") as file:
         print(f"fs.protected_hardlinks = {file.read().strip()}")
-    print(f"{comparison.scripts} scripts run, {comparison.passed_over} passed over; {comparison.same} answers the same")
+    print(f"{comparison.scripts} scripts run, {comparison.passed_over} passed over; {comparison.same} replies the same")
     for kind, count in comparison.classes.most_common():
         print(f"{count:8}  {kind}")
-    for name, number, command, told, here, there in comparison.unnamed[: asked.show]:
-        print(f"{name}: command {number}: {command} {told!r:.120}: here {here!r:.120}, there {there!r:.120}")
+    for name, number, command, spelt, here, there in comparison.unnamed[: asked.show]:
+        print(f"{name}: command {number}: {command} {spelt!r:.120}: here {tuple(here)!r:.120}, there {tuple(there)!r:.120}")
     return 1 if comparison.unnamed else 0
 
 

@@ -4,10 +4,10 @@
 #include <stdlib.h>
 #include <string.h>
 
-/* Room for what a text tells; the rest is asked for. */
+/* Room for what a text prints; further calls get the rest. */
 static uint8_t out[64];
 
-/* Prints what was told, and how it ended where that is not well. */
+/* Prints what the library gave back, and the status if it is not HURD_DONE. */
 static void tell(hurd_world *world, hurd_said said)
 {
     size_t from = 0, count = said.length < sizeof out ? said.length : sizeof out;
@@ -25,7 +25,7 @@ static void tell(hurd_world *world, hurd_said said)
         printf("status %u, error %u, line %llu\n", (unsigned)said.status, (unsigned)said.error, (unsigned long long)said.line);
 }
 
-/* Makes the calls of a text, and prints what they tell. */
+/* Makes the calls of a text, and prints their replies. */
 static void make(hurd_world *world, const char *calls)
 {
     tell(world, hurd_make(world, (const uint8_t *)calls, strlen(calls), out, sizeof out));

@@ -1,16 +1,16 @@
-/* The tree as a library: texts come in, and what they tell goes out as text, as the program `hurd` prints it.
+/* The tree as a library: it takes texts, and gives back as text what the program `hurd` prints of them.
 
-   A text is a script of users' commands, as `hurd run SCRIPT.hurd` takes it, or a list of tasks' calls, as `hurd run LIST.calls` does. hurd_run, hurd_learn, hurd_see
-   and hurd_draw take a whole text of either sort, in a world of its own. A world that is kept takes lists: each call tells its line and then its reply.
+   A text is a script of users' commands, as for `hurd run SCRIPT.hurd`, or a list of tasks' calls, as for `hurd run LIST.calls`. hurd_run, hurd_learn, hurd_see and
+   hurd_draw run a whole text of either sort in a world of its own. A world that is kept takes lists, and prints the line of each call and then its reply.
 
-   What a program is to keep, since nothing checks it:
-   - A hurd_world begins as HURD_NO_WORLD. Only these functions write it. It isn't copied while there is a world in it.
-   - A world is given to one call at a time, and stays on one thread.
-   - A pointer to bytes is never null, not even for no bytes. What is written, `out` and the world, overlaps nothing else that the call is given.
-   - malloc, realloc and free are of one allocator, and malloc's blocks lie as the C standard says.
+   What a program must do, since nothing checks it:
+   - A hurd_world starts as HURD_NO_WORLD. Only these functions write it. It isn't copied while it has a world.
+   - A world is used by one call at a time, and stays on one thread.
+   - A pointer to bytes is never null, not even for no bytes. What a function writes, `out` and the world, overlaps no other argument.
+   - malloc, realloc and free belong to one allocator, and malloc aligns blocks as the C standard says.
    - No function is called from a signal handler, nor in the forked child of a program with threads.
 
-   A program is linked with libhurd_c.a, and with liblibc_c.a of the toolchain, which calls malloc, realloc and free. */
+   Link a program with libhurd_c.a, and with liblibc_c.a of the toolchain, which calls malloc, realloc and free. */
 #ifndef HURD_H
 #define HURD_H
 #include <stddef.h>
@@ -19,7 +19,7 @@
 extern "C" {
 #endif
 
-/* A world of tasks with what its last text told, or none. */
+/* A world of tasks, with what its last text printed; or no world. */
 typedef struct hurd_world {
     void *at;
 } hurd_world;
@@ -27,12 +27,12 @@ typedef struct hurd_world {
 
 /* How a call ended. */
 enum {
-    HURD_DONE = 0,    /* all was made and told */
-    HURD_BAD = 1,     /* the text is bad at `line`, and no call was made; line 0: it is too long, or hurd_make was given a task */
-    HURD_REFUSED = 2, /* no world was begun, by the refusal of number `error` */
-    HURD_MEMORY = 3,  /* memory was refused: some first calls may have been made and told, and perhaps the next was made */
+    HURD_DONE = 0,    /* all calls were made, and all is printed */
+    HURD_BAD = 1,     /* the text is bad at `line`, and no call was made; line 0: it is too long, or hurd_make was given a task line */
+    HURD_REFUSED = 2, /* the world could not be created: the refusal of number `error` */
+    HURD_MEMORY = 3,  /* out of memory: some first calls may have been made and printed, and perhaps the next was made */
     HURD_NONE = 4,    /* there is no world */
-    HURD_UNKNOWN = 5, /* somebody is named who isn't there */
+    HURD_UNKNOWN = 5, /* `who` names somebody who isn't there */
     HURD_NO_SORT = 6  /* there is no sort of texts of this number */
 };
 
@@ -46,42 +46,42 @@ typedef struct hurd_said {
     uint32_t status; /* one of these */
     uint32_t error;
     uint64_t line;
-    size_t length;   /* how many bytes were told: more than were copied where there was no room */
+    size_t length;   /* how many bytes are printed: more than were copied if there was too little room */
 } hurd_said;
 
-/* Lets the world go that was there, begins that of a list's tasks, and makes the list's calls. Copies what they tell as far as there is room. There is no world
-   afterwards where the status is not HURD_DONE. */
+/* Frees the world that was there, creates one of the list's tasks, and makes the list's calls. Copies what they print, as far as there is room. If the status is not
+   HURD_DONE, there is no world afterwards. */
 hurd_said hurd_begin(hurd_world *world, const uint8_t *list, size_t size, uint8_t *out, size_t room);
 
-/* Makes the calls of a text, one after another. Copies what they tell as far as there is room. The world stays usable whatever the status. */
+/* Makes the calls of a text, one after another. Copies what they print, as far as there is room. The world stays usable, whatever the status. */
 hurd_said hurd_make(hurd_world *world, const uint8_t *calls, size_t size, uint8_t *out, size_t room);
 
-/* From now on hurd_make tells, behind each call of others, what the tasks learn whose numbers stand in `who` between commas, as `hurd learns` prints it, without its
-   last line; no bytes: nothing of that is told any more. What was told before stays told, and `length` says how much that is. Nothing changes where the status
-   isn't HURD_DONE. */
+/* After this hurd_make also prints, after each call by others, what the tasks of `who` learn, as `hurd learn` does, but without its last line. `who` has their
+   numbers, with commas between them; if it is empty, this ends. What was printed last is kept, and `length` says how much that is. If the status is not
+   HURD_DONE, nothing changes. */
 hurd_said hurd_watch(hurd_world *world, const uint8_t *who, size_t size);
 
-/* Copies what the last text told, from the byte `from` on, as far as there is room. Gives how many bytes these are. */
+/* Copies what the last text printed, from the byte `from` on, as far as there is room. Returns how many bytes these are. */
 size_t hurd_told(hurd_world *world, size_t from, uint8_t *out, size_t room);
 
-/* Lets the world go. */
+/* Frees the world. */
 void hurd_end(hurd_world *world);
 
-/* Each of the next four does what a command of `hurd` does with a whole text, in a world of its own that is gone afterwards. Copies what the command prints as far
-   as there is room; `length` says how much that is, and the rest is had by a call with more room. Where the status is HURD_BAD, or HURD_UNKNOWN, the line that
-   says why is copied in its place, as it stands behind the name of a file, from the colon on. Else nothing is told. */
+/* Each of the next four does what a command of `hurd` does with a whole text, in a world of its own that is freed at the end. It copies what the command prints, as
+   far as there is room; `length` says how much that is, and a call with more room gets the rest. If the status is HURD_BAD or HURD_UNKNOWN, it copies the
+   complaint instead: what the command prints after the name of the file, from the colon on. At any other failure nothing is copied. */
 
-/* As `hurd run`: what the text tells. */
+/* As `hurd run`: the transcript. */
 hurd_said hurd_run(uint32_t sort, const uint8_t *text, size_t size, uint8_t *out, size_t room);
 
-/* As `hurd learns`: that, and behind each command or call of others what those of `who` learn. These are users by their names, or tasks by their numbers, with commas
-   between them. The status is HURD_UNKNOWN, and nothing is told, where `who` is no UTF-8. */
+/* As `hurd learn`: the transcript and, after each command or call by others, what `who` learn from it. `who` has names of users, or numbers of tasks, with commas
+   between them. If `who` is not valid UTF-8, the status is HURD_UNKNOWN, and nothing is copied. */
 hurd_said hurd_learn(uint32_t sort, const uint8_t *text, size_t size, const uint8_t *who, size_t who_size, uint8_t *out, size_t room);
 
-/* As `hurd see`: all that those of `who` see at the end of the text. */
+/* As `hurd see`: everything that `who` can see at the end of the text. */
 hurd_said hurd_see(uint32_t sort, const uint8_t *text, size_t size, const uint8_t *who, size_t who_size, uint8_t *out, size_t room);
 
-/* As `hurd draw`: a picture of the world at the end of the text. It is marked what those of `who` see; nobody's sight is where that has no bytes. */
+/* As `hurd draw`: a picture of the world at the end of the text. It marks what `who` can see; if `who` is empty, it has no marks. */
 hurd_said hurd_draw(uint32_t sort, const uint8_t *text, size_t size, const uint8_t *who, size_t who_size, uint8_t *out, size_t room);
 
 #ifdef __cplusplus

@@ -1,4 +1,4 @@
-r"""The tree from Python: texts go in, and what they tell comes out.
+r"""The tree from Python: it takes texts, and returns what the program `hurd` prints of them.
 
     import hurd
 
@@ -6,11 +6,11 @@ r"""The tree from Python: texts go in, and what they tell comes out.
     with hurd.World("task 0 0\ntask 1000 1000\n") as world:             # a world that is kept
         print(world.make("0 dir_mkdir 1 =tmp 1777"))                    # a call, or many lines of them
 
-A text is `str` or `bytes`. A `str` goes in as UTF-8, and so comes what is told. Bytes that are no UTF-8 are escaped as Python's `surrogateescape` does, both ways: so none is
-lost. A NUL byte is a byte as any other.
+A text is `str` or `bytes`. A `str` is encoded as UTF-8, and results are decoded so. Bytes that are not valid UTF-8 are escaped as by Python's `surrogateescape`, both ways:
+so none is lost. A NUL byte is a byte like any other.
 
-The library is the file `libhurd.so` beside this module, or the one that the environment variable HURD_LIBRARY names. What its functions do, and what of them is proved,
-stands in docs/EMBED.md; the language of the texts in docs/PROFILE.md.
+The library is the file `libhurd.so` beside this module, or the one that the environment variable HURD_LIBRARY names. docs/EMBED.md says what its functions do, and what
+of them is proved; docs/PROFILE.md describes the language of the texts.
 """
 from __future__ import annotations
 
@@ -33,33 +33,33 @@ class Sort(enum.IntEnum):
 
 
 class HurdError(Exception):
-    """Something that the library refused."""
+    """A failure that the library reports."""
 
 
 class BadText(HurdError):
     """A text is bad, and nothing of it was done.
 
-    `line` is the first bad one. It is 0 where the text is too long, or where a world that is there is given a task.
-    `reason` says why. It is empty where the library gives none, as it does of a world's texts.
+    `line` is the number of the first bad line. It is 0 if the text is too long, or has a task line for a world that exists.
+    `reason` says why. It is empty if the library gives none, as for a world's texts.
     """
 
     def __init__(self, line: int, reason: str) -> None:
         self.line, self.reason = line, reason
-        super().__init__(reason or (f"line {line} is bad" if line else "the text is too long, or has a task where none may be"))
+        super().__init__(reason or (f"line {line} is bad" if line else "the text is too long, or has a task line where none is allowed"))
 
 
 class Refused(HurdError):
-    """No world was begun, by the refusal of number `error`."""
+    """The world could not be created: the refusal of number `error`."""
 
     def __init__(self, error: int) -> None:
         self.error = error
-        super().__init__(f"no world was begun: error {error}")
+        super().__init__(f"the world could not be created: error {error}")
 
 
 class NoMemory(HurdError):
-    """Memory was refused. `told` is what was told before that.
+    """Memory ran out. `told` is what was printed before that.
 
-    Of a world the first calls were made and told, and perhaps the next was made. It can still be used.
+    In a world the first calls were made and printed, and perhaps the next was made. It can still be used.
     """
 
     def __init__(self, told: str) -> None:
@@ -68,14 +68,14 @@ class NoMemory(HurdError):
 
 
 class NoWorld(HurdError):
-    """There is no world: it was closed, or never begun."""
+    """There is no world: it was closed, or never created."""
 
     def __init__(self) -> None:
         super().__init__("there is no world")
 
 
 class Unknown(HurdError):
-    """Somebody in `who` isn't there. `reason` says it as the command does, where the library gives that."""
+    """Somebody in `who` isn't there. `reason` has the words of the command, if the library gives them."""
 
     def __init__(self, who: str, reason: str) -> None:
         self.who, self.reason = who, reason
@@ -116,7 +116,7 @@ class _Status(enum.IntEnum):
 _HELD = ctypes.POINTER(_World)
 _BYTES = [ctypes.c_char_p, ctypes.c_size_t]
 _SORT = [ctypes.c_uint32]
-# The functions of hurd.h: what each gives, and what it takes.
+# The functions of hurd.h: what each returns, and what it takes.
 _FUNCTIONS = {
     "hurd_begin": (_Said, [_HELD, *_BYTES, *_BYTES]),
     "hurd_make": (_Said, [_HELD, *_BYTES, *_BYTES]),
@@ -189,8 +189,8 @@ def _fail(said: _Said, told: str, who: bytes) -> NoReturn:
 class World:
     r"""A world of tasks over an empty tree in memory, which lasts until it is closed.
 
-    It stays on the thread that began it: a method that is called on another one raises RuntimeError. No method is called in a child of `os.fork` of a program with threads.
-    It keeps the texts that it was given, for `fork`. Of a world that no name holds any more the memory is given back as by `close`, if that happens on its thread.
+    It stays on the thread that created it: a method that is called on another one raises RuntimeError. Call no method in a child of `os.fork` of a program with threads.
+    It keeps the texts that it was given, for `fork`. If a world becomes unreachable, its memory is freed as by `close`, if that happens on its thread.
 
         with hurd.World("task 0 0\ntask 1000 1000\n") as world:
             world.learn("1")
@@ -198,24 +198,24 @@ class World:
     """
 
     def __init__(self, text: Text) -> None:
-        """Begins the world of a list's tasks, and makes the list's calls; `told` is what these tell.
+        """Creates the world of a list's tasks, and makes the list's calls; `told` is what these print.
 
-        Raises BadText, Refused, NoMemory; TypeError of what is no text.
+        Raises BadText, Refused, NoMemory; TypeError if it is not a text.
         """
         self._world = _World()
         self._thread = threading.get_ident()
         self._room = ctypes.create_string_buffer(_WORLD_ROOM)
         self._told = ""
-        # What `fork` does once more: the first text, and each method with what it was given; and whether that is all.
+        # What `fork` does again: the first text, and each method with its argument; and whether that is all.
         self._first = _bytes_of(text)
         self._steps: List[Tuple[str, bytes]] = []
         self._is_known = True
         self._tell(_library.hurd_begin, self._first)
 
     def make(self, calls: Text) -> str:
-        """Makes the calls of a text, a line each, and gives what they tell: of each its line, and its reply behind two spaces.
+        """Makes the calls of a text, one on each line, and returns what they print: the line of each, and its reply after two spaces.
 
-        Raises BadText, and then no call was made; NoMemory; NoWorld; TypeError of what is no text.
+        Raises BadText, and then no call was made; NoMemory; NoWorld; TypeError if it is not a text.
         """
         text = _bytes_of(calls)
         told = self._tell(_library.hurd_make, text)
@@ -223,9 +223,9 @@ class World:
         return told
 
     def learn(self, who: Text = "") -> None:
-        """From now on `make` tells, behind each call of others, what the tasks of `who` learn: numbers with commas between them. Of nobody: no longer.
+        """After this `make` also returns, after each call by others, what the tasks of `who` learn from it. `who` has numbers with commas between them; if it is empty, this ends.
 
-        Raises NoWorld; Unknown of a task that isn't there, and then who was watched before still is; NoMemory; TypeError of what is no text.
+        Raises NoWorld; Unknown if a task isn't there, and then nothing changes; NoMemory; TypeError if it is not a text.
         """
         names = _bytes_of(who)
         said = _library.hurd_watch(self._held(), names, len(names))
@@ -235,20 +235,20 @@ class World:
 
     @property
     def told(self) -> str:
-        """What the last text told. Raises NoWorld of a closed world."""
+        """What the last text printed. Raises NoWorld if the world is closed."""
         self._held()
         if not self._world.at:
             raise NoWorld
         return self._told
 
     def fork(self) -> World:
-        """Another world, to which the same was done: its texts are made once more, so it costs as much as they did.
+        """Another world, to which the same was done: its texts are run again, so it takes as long as they did.
 
-        Raises NoWorld; NoMemory; HurdError where memory was refused to this one, since then it isn't known which calls were made.
+        Raises NoWorld; NoMemory; HurdError if this world ran out of memory, since then nobody knows which of its calls were made.
         """
         told = self.told
         if not self._is_known:
-            raise HurdError("memory was refused to this world, and it isn't known which of its calls were made")
+            raise HurdError("this world ran out of memory, and nobody knows which of its calls were made")
         other = World(self._first)
         for method, given in self._steps:
             getattr(other, method)(given)
@@ -256,7 +256,7 @@ class World:
         return other
 
     def close(self) -> None:
-        """Lets the world go. What is asked of it afterwards raises NoWorld; to close it once more does nothing."""
+        """Frees the world. After that its methods raise NoWorld; a second `close` does nothing."""
         _library.hurd_end(self._held())
 
     def __enter__(self) -> World:
@@ -270,13 +270,13 @@ class World:
             self.close()
 
     def _held(self) -> Any:
-        """The world as the library wants it."""
+        """The world as the library takes it."""
         if threading.get_ident() != self._thread:
-            raise RuntimeError("a world stays on the thread that began it")
+            raise RuntimeError("a world stays on the thread that created it")
         return ctypes.byref(self._world)
 
     def _tell(self, function: Any, text: bytes) -> str:
-        """Gives a text to the library, and keeps all that it tells: what there was no room for is asked for at once."""
+        """Gives a text to the library, and keeps all that it prints. If there was too little room, it asks for the rest."""
         said = function(self._held(), text, len(text), self._room, _WORLD_ROOM)
         told = ctypes.string_at(self._room, min(said.length, _WORLD_ROOM))
         if said.length > _WORLD_ROOM:
@@ -287,18 +287,18 @@ class World:
         return self._told
 
     def _rest(self, length: int) -> bytes:
-        """So many bytes of what was told, behind those that there was room for."""
+        """So many bytes of what was printed, after those that there was room for."""
         out = ctypes.create_string_buffer(length)
         return ctypes.string_at(out, _library.hurd_told(self._held(), _WORLD_ROOM, out, length))
 
     def _fail(self, said: _Said, told: str, who: bytes = b"") -> NoReturn:
-        """Raises what a status says. Where memory was refused it isn't known any more what was done."""
+        """Raises the error of a status. If memory ran out, nobody knows what was done."""
         self._is_known = self._is_known and said.status != _Status.MEMORY
         _fail(said, told, who)
 
 
 def _printed(function: Any, sort: int, text: Text, *who: Text) -> str:
-    """What a function of the library prints of a whole text. Where there was no room for all, it is asked again with more."""
+    """What a function of the library prints of a whole text. If there was too little room, it asks again with more."""
     if not 0 <= sort < 1 << 32:
         raise NoSort
     given = [_bytes_of(one) for one in (text, *who)]
@@ -316,27 +316,27 @@ def _printed(function: Any, sort: int, text: Text, *who: Text) -> str:
 
 
 def run(text: Text, sort: int = Sort.SCRIPT) -> str:
-    """What a text tells, run in a world of its own, as `hurd run` prints it.
+    """The transcript of a text, run in a world of its own, as `hurd run` prints it.
 
-    Raises BadText, Refused, NoMemory, NoSort; TypeError of what is no text.
+    Raises BadText, Refused, NoMemory, NoSort; TypeError if it is not a text.
     """
     return _printed(_library.hurd_run, sort, text)
 
 
 def learn(text: Text, who: Text, sort: int = Sort.SCRIPT) -> str:
-    """What a text tells, and behind each command of others what those of `who` learn by it, as `hurd learns` prints it.
+    """The transcript of a text and, after each command by others, what `who` learn from it, as `hurd learn` prints it.
 
-    `who` is users of a script, or numbers of a list's tasks, with commas between them.
-    Raises BadText, Unknown, Refused, NoMemory, NoSort; TypeError of what is no text.
+    `who` has users of a script, or numbers of a list's tasks, with commas between them.
+    Raises BadText, Unknown, Refused, NoMemory, NoSort; TypeError if it is not a text.
     """
     return _printed(_library.hurd_learn, sort, text, who)
 
 
 def see(text: Text, who: Text, sort: int = Sort.SCRIPT) -> str:
-    """All that those of `who` see at the end of a text, as `hurd see` prints it. Raises what `learn` raises."""
+    """Everything that `who` can see at the end of a text, as `hurd see` prints it. Raises what `learn` raises."""
     return _printed(_library.hurd_see, sort, text, who)
 
 
 def draw(text: Text, who: Text = "", sort: int = Sort.SCRIPT) -> str:
-    """A picture of the end of a text in the language of Graphviz, as `hurd draw` prints it. What those of `who` see is marked. Raises what `learn` raises."""
+    """A picture of the end of a text in the language of Graphviz, as `hurd draw` prints it. It marks what `who` can see. Raises what `learn` raises."""
     return _printed(_library.hurd_draw, sort, text, who)

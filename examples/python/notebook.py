@@ -1,9 +1,9 @@
 # %% [markdown]
 # # Whose file is it?
-# A file tree in the manner of the GNU Hurd: any user may put a program of their own, a *translator*, behind a file of theirs. Who opens the file is then served by that program.
-# Here alice reads a file of bob's, and a translator of bob's takes its place. We look at what she is told, at what she learns, and at a picture.
+# This is a file tree as in the GNU Hurd: any user may attach a program of their own, a *translator*, to a file of theirs. That program then serves whoever opens the file.
+# Here alice reads a file of bob's, and then bob attaches a translator to it. We look at the replies that she gets, at what she learns, and at a picture.
 
-# %% A script says who the users are, besides root, and then what each of them does. `run` shows each command, and below it what it prints.
+# %% A script says who the users are, besides root, and then what each of them does. `run` shows each command, and its reply below it.
 import shutil
 import subprocess
 
@@ -19,21 +19,21 @@ alice cat /tmp/news
 """
 print(hurd.run(script))
 
-# %% Bob puts a translator behind his file. Alice gives the same command as before, and reads something else.
+# %% Bob attaches a translator to his file. Alice runs the same command as before, and reads something else.
 script += """\
 bob settrans /tmp/news /hurd/hello --contents=sun
 alice cat /tmp/news
 """
 print(hurd.run(script))
 
-# %% She can see that there is a translator, and by which words it was made. She can't take it away: it is bob's file.
+# %% She can see that there is a translator, and which words made it. She can't remove it: it is bob's file.
 script += """\
 alice showtrans /tmp/news
 alice settrans -g /tmp/news
 """
 print(hurd.run(script))
 
-# %% What alice learns: below each command of others stands what she could now find out by commands of her own, and could not before.
+# %% What alice learns: below each command by others is what she can find out after it by commands of her own, and could not before. Each line of a reply has the mark `| `, an error `! `.
 print(hurd.learn(script, "alice"))
 
 # %% The picture of the end. What is yellow alice can read. A dashed blue arrow leads from a file to the translator that serves it.

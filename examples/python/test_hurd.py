@@ -1,6 +1,6 @@
 """Tests of hurd.py, for pytest, or alone: python3 examples/python/test_hurd.py
 
-What texts tell stands beside them, in the transcripts of the examples and of the tests; which texts are bad, and why, in tests/texts.
+The transcripts of the examples and of the tests say what texts print; tests/texts says which texts are bad, and why.
 """
 from __future__ import annotations
 
@@ -27,7 +27,7 @@ SCRIPT = "user alice 1000 1000\nroot put /motd Welcome\\n\nalice cat /motd\n"
 
 
 def told_of(path: Path) -> str:
-    """What stands in a file, as the module gives texts: an end of a line stays as it is."""
+    """The text of a file, as the module returns texts: an end of a line stays as it is."""
     return path.read_bytes().decode("utf-8", "surrogateescape")
 
 
@@ -105,6 +105,18 @@ def test_what_alice_learns() -> None:
             assert hurd.learn(script.read_bytes(), "alice") == told_of(path), path
         else:
             assert hurd.learn(calls.read_bytes(), "1", Sort.CALLS) == told_of(path), path
+
+
+def test_texts_are_told_from_errors() -> None:
+    """What a command puts out and the error that refuses it have marks of their own, and so has a last line without its newline."""
+    script = "user alice - -\nroot put /f EACCES\nroot mkdir /d\\nd\n# from here\nalice cat /f\nalice put /f x\nalice cat\nalice ls /\n"
+    assert hurd.learn(script, "alice").split("\n\n")[2:] == [
+        "alice$ cat /f\n| EACCES\n\\ no newline",
+        "alice$ put /f x\n! EACCES",
+        "alice$ cat\n! usage",
+        "alice$ ls /\n| f\n| d\n: d",
+        "alice learned from 0 of 0 commands by others\n",
+    ]
 
 
 def test_what_a_task_learns_in_a_world() -> None:

@@ -1,6 +1,6 @@
-//! The tree from Rust: texts go in, and what they tell comes out. This is one file without a crate; to use it in a program, take what stands above `main`.
+//! The tree from Rust: it takes texts, and returns what the program `hurd` prints of them. This is one file without a crate; to use it in a program, copy all above `main`.
 //!
-//! What the library's functions do, and what a program is to keep, stands in examples/c/hurd.h. The types here keep it, but for this: no function is called from a signal
+//! examples/c/hurd.h says what the library's functions do, and what a program must do. The types here see to that, except for one rule: call no function from a signal
 //! handler, nor in a forked child of a program with threads.
 
 use std::error;
@@ -8,7 +8,7 @@ use std::fmt;
 use std::io::{self, Write};
 use std::ptr;
 
-/// `hurd_world` of hurd.h: null where there is no world.
+/// `hurd_world` of hurd.h: null if there is no world.
 #[repr(C)]
 struct Held {
     at: *mut u8,
@@ -23,10 +23,10 @@ struct Said {
     length: usize,
 }
 
-/// A function that is given a world and a text, and copies what that tells.
+/// A function that takes a world and a text, and copies what the text prints.
 type Tell = unsafe extern "C" fn(*mut Held, *const u8, usize, *mut u8, usize) -> Said;
 
-/// A function that is given a whole text and who is asked for, and copies what is printed of it.
+/// A function that takes a whole text and names of users or tasks, and copies what is printed of it.
 type Print = unsafe extern "C" fn(u32, *const u8, usize, *const u8, usize, *mut u8, usize) -> Said;
 
 extern "C" {
@@ -55,27 +55,27 @@ pub enum Sort {
 /// What the library refused.
 #[derive(Clone, Debug, PartialEq, Eq)]
 pub enum Error {
-    /// The text is bad at this line, and nothing of it was done. Line 0: it is too long, or a world that is there was given a task.
-    /// The reason is empty where the library gives none, as of a world's texts.
+    /// The text is bad at this line, and nothing of it was done. Line 0: it is too long, or has a task line for a world that exists.
+    /// The reason is empty if the library gives none, as for a world's texts.
     BadText { line: u64, reason: Vec<u8> },
-    /// No world was begun, by the refusal of this number.
+    /// The world could not be created: the refusal of this number.
     Refused { error: u32 },
-    /// Memory was refused, and this was told before. Of a world the first calls were made, and perhaps the next was. It can still be used.
+    /// Memory ran out; `told` was printed before that. In a world the first calls were made, and perhaps the next was. It can still be used.
     NoMemory { told: Vec<u8> },
-    /// Somebody who is named isn't there. The reason is empty where the library gives none.
+    /// Somebody who is named isn't there. The reason is empty if the library gives none.
     Unknown { reason: Vec<u8> },
-    /// A status that can't come of what is asked for here, or that is new.
+    /// A status that no function here can end with, or that is new.
     Other { status: u32 },
 }
 
 impl fmt::Display for Error {
     fn fmt(&self, f: &mut fmt::Formatter<'_>) -> fmt::Result {
         match self {
-            Error::BadText { line: 0, reason } if reason.is_empty() => write!(f, "the text is too long, or has a task where none may be"),
+            Error::BadText { line: 0, reason } if reason.is_empty() => write!(f, "the text is too long, or has a task line where none is allowed"),
             Error::BadText { line, reason } if reason.is_empty() => write!(f, "line {line} is bad"),
             Error::Unknown { reason } if reason.is_empty() => write!(f, "somebody who is named isn't there"),
             Error::BadText { reason, .. } | Error::Unknown { reason } => write!(f, "{}", String::from_utf8_lossy(reason)),
-            Error::Refused { error } => write!(f, "no world was begun: error {error}"),
+            Error::Refused { error } => write!(f, "the world could not be created: error {error}"),
             Error::NoMemory { .. } => write!(f, "out of memory"),
             Error::Other { status } => write!(f, "the library ended with status {status}"),
         }
@@ -84,14 +84,14 @@ impl fmt::Display for Error {
 
 impl error::Error for Error {}
 
-/// Why something is refused: the library says it as it stands behind the name of a file.
+/// The reason in a complaint, which the library gives from the colon after the name of a file on.
 fn reason(told: &[u8]) -> Vec<u8> {
     let told = told.strip_prefix(b":").unwrap_or(told);
     let told = told.strip_prefix(b" ").unwrap_or(told);
     told.strip_suffix(b"\n").unwrap_or(told).to_vec()
 }
 
-/// What was told, or what the status says.
+/// What was printed, or the error of the status.
 fn ended(said: &Said, told: Vec<u8>) -> Result<Vec<u8>, Error> {
     match said.status {
         0 => Ok(told),
@@ -109,26 +109,26 @@ pub struct World {
 }
 
 impl World {
-    /// Begins the world of a list's tasks, and makes the list's calls. Gives the world, and what these tell.
+    /// Creates the world of a list's tasks, and makes the list's calls. Returns the world, and what the calls print.
     pub fn begin(list: &[u8]) -> Result<(World, Vec<u8>), Error> {
         let mut world = World { held: Held { at: ptr::null_mut() } };
         let told = world.tell(hurd_begin, list)?;
         Ok((world, told))
     }
 
-    /// Makes the calls of a text, a line each, and gives what they tell: of each its line, and its reply behind two spaces.
+    /// Makes the calls of a text, one on each line, and returns what they print: the line of each, and its reply after two spaces.
     pub fn make(&mut self, calls: &[u8]) -> Result<Vec<u8>, Error> {
         self.tell(hurd_make, calls)
     }
 
-    /// From now on `make` tells, behind each call of others, what these tasks learn: numbers with commas between them. Of nobody: no longer.
+    /// After this `make` also returns, after each call by others, what these tasks learn from it. `who` has numbers with commas between them; if it is empty, this ends.
     pub fn learn(&mut self, who: &[u8]) -> Result<(), Error> {
         // SAFETY: the world is one that these functions alone write, and the bytes are those of a slice.
         let said = unsafe { hurd_watch(&mut self.held, who.as_ptr(), who.len()) };
         ended(&said, Vec::new()).map(drop)
     }
 
-    /// Gives a text to the library, and takes all that it tells: what there was no room for is asked for at once.
+    /// Gives a text to the library, and returns all that it prints. If there was too little room, it asks for the rest.
     fn tell(&mut self, function: Tell, text: &[u8]) -> Result<Vec<u8>, Error> {
         let mut told = vec![0; WORLD_ROOM];
         // SAFETY: as above; the room is that of a vector of its own.
@@ -149,7 +149,7 @@ impl Drop for World {
     }
 }
 
-/// What is printed of a text. Where there was no room for all, it is asked again with more.
+/// What is printed of a text. If there was too little room, it asks again with more.
 fn printed(ask: impl Fn(&mut [u8]) -> Said) -> Result<Vec<u8>, Error> {
     let mut told = vec![0; TEXT_ROOM];
     loop {
@@ -162,34 +162,34 @@ fn printed(ask: impl Fn(&mut [u8]) -> Said) -> Result<Vec<u8>, Error> {
     }
 }
 
-/// The same, where it is asked for somebody.
+/// The same, for a function that takes names.
 fn printed_for(function: Print, sort: Sort, text: &[u8], who: &[u8]) -> Result<Vec<u8>, Error> {
     // SAFETY: all bytes are those of slices, and the room is one that nothing else has.
     printed(|out| unsafe { function(sort as u32, text.as_ptr(), text.len(), who.as_ptr(), who.len(), out.as_mut_ptr(), out.len()) })
 }
 
-/// What a text tells, run in a world of its own, as `hurd run` prints it.
+/// The transcript of a text, run in a world of its own, as `hurd run` prints it.
 pub fn run(sort: Sort, text: &[u8]) -> Result<Vec<u8>, Error> {
     // SAFETY: the same.
     printed(|out| unsafe { hurd_run(sort as u32, text.as_ptr(), text.len(), out.as_mut_ptr(), out.len()) })
 }
 
-/// What a text tells, and behind each command of others what those of `who` learn by it, as `hurd learns` prints it. They are users of a script, or numbers of tasks.
+/// The transcript of a text and, after each command or call by others, what `who` learn from it, as `hurd learn` prints it. `who` has names of users, or numbers of tasks.
 pub fn learn(sort: Sort, text: &[u8], who: &[u8]) -> Result<Vec<u8>, Error> {
     printed_for(hurd_learn, sort, text, who)
 }
 
-/// All that those of `who` see at the end of a text, as `hurd see` prints it.
+/// Everything that `who` can see at the end of a text, as `hurd see` prints it.
 pub fn see(sort: Sort, text: &[u8], who: &[u8]) -> Result<Vec<u8>, Error> {
     printed_for(hurd_see, sort, text, who)
 }
 
-/// A picture of the end of a text in the language of Graphviz, as `hurd draw` prints it. What those of `who` see is marked; they may be nobody.
+/// A picture of the end of a text in the language of Graphviz, as `hurd draw` prints it. It marks what `who` can see; `who` may be empty.
 pub fn draw(sort: Sort, text: &[u8], who: &[u8]) -> Result<Vec<u8>, Error> {
     printed_for(hurd_draw, sort, text, who)
 }
 
-/// A first program: root writes a notice, alice reads it and may not write it, and learns of a directory. What it prints stands in hurd.txt.
+/// A first program: root writes a notice, alice reads it and may not write it, and learns of a directory. hurd.txt has what it prints.
 fn main() -> Result<(), Box<dyn error::Error>> {
     let mut out = io::stdout().lock();
     let (mut world, told) = World::begin(b"task 0 0\ntask 1000 1000\n0 dir_lookup 1 =motd WRITE,CREATE 644")?;

@@ -4,14 +4,14 @@ use clap::{Arg, ArgAction, Command};
 use std::alloc::{AllocError, Global};
 
 const ABOUT: &str =
-    "Runs scripts of several users' commands over a file tree in memory in which strangers serve the nodes, and says what users learn by them.";
+    "Run scripts in which several users share a file tree, and report what each of them can learn.\nThe tree is in memory. Files may be served by translators of ten built-in kinds, as in the GNU Hurd.";
 
 const AFTER: &str =
-    "FILE is a script, or a list of calls where its name ends with .calls; - is standard input.\nWHO is a user of the script or the number of a task of the list, or several of them between commas.\nONE and TWO are scripts with the same users, in which WHO give the same commands.\n\nExit status: 0 all went well; 1 a bad text, somebody is named who isn't in it, or ONE and TWO are no such pair; 2 trouble; 3 WHO are told otherwise.\nWhat is wrong is said on standard error, as hurd: FILE:LINE: bad script: REASON.\n\nExamples:\n  hurd run examples/welcome.hurd\n  hurd learns alice examples/learned-secret.hurd\n  hurd learns --how alice examples/learned-secret.hurd\n  hurd see alice examples/learned-secret.hurd\n  hurd draw --as alice examples/learned-secret.hurd | dot -Tsvg > picture.svg\n  hurd tell alice examples/unseen-one.hurd examples/unseen-two.hurd\n  hurd run --json examples/sent-port.calls\n  hurd sample 7 | hurd learns alice -";
+    "FILE  a script; or a call list, if its name ends in .calls or --calls is given; - is standard input\nWHO   comma-separated users of the script, or task numbers of the call list\nONE, TWO  scripts with the same users, in which WHO run the same commands\n\nExit status:\n  0  success (compare: WHO get the same replies in both scripts)\n  1  FILE is invalid, WHO names somebody who is not in it, or ONE and TWO cannot be compared\n  2  wrong usage, a read or write failed, or out of memory\n  3  compare: WHO get a different reply in TWO\n\nErrors go to standard error, as  hurd: FILE:LINE: bad script: REASON\n\nExamples:\n  hurd run examples/welcome.hurd\n  hurd learn alice examples/learned-secret.hurd\n  hurd learn --how alice examples/learned-secret.hurd\n  hurd see alice examples/learned-secret.hurd\n  hurd draw --as alice examples/learned-secret.hurd | dot -Tsvg > tree.svg\n  hurd compare alice examples/unseen-one.hurd examples/unseen-two.hurd\n  hurd run --json examples/sent-port.calls\n  hurd sample 7 | hurd learn alice -";
 
-const FILE: &str = "a script, a list of calls (NAME.calls), or - for standard input";
+const FILE: &str = "a script, a call list (NAME.calls), or - for standard input";
 
-const WHO: &str = "users of the script, or tasks of the list, between commas";
+const WHO: &str = "comma-separated users of the script, or task numbers of the call list";
 
 const SCRIPT: &str = "a script, or - for standard input";
 
@@ -23,89 +23,92 @@ fn word<'a>(alloc: Global, name: &'a str, help: &'a str) -> Arg<'a> {
         .help(help)
 }
 
-/// A verb for one text. An error is want of memory.
+/// A verb for one text. Fails only if memory runs out.
 fn verb<'a>(alloc: Global, name: &'a str, about: &'a str) -> Result<Command<'a>, AllocError> {
     let calls = Arg::new(alloc, "calls")
         .long("calls")
         .action(ArgAction::SetTrue)
-        .help("FILE is a list of calls, whatever its name is");
+        .help("Treat FILE as a call list");
     Command::new(alloc, name).about(about).arg(calls)
 }
 
-/// The verb for a transcript. An error is want of memory.
+/// The verb for a transcript. Fails only if memory runs out.
 fn run<'a>(alloc: Global) -> Result<Command<'a>, AllocError> {
     let json = Arg::new(alloc, "json")
         .long("json")
         .action(ArgAction::SetTrue)
-        .help("Prints a list as vectors: a line of JSON for each call");
+        .help("Print each call and its reply as a line of JSON (call lists only)");
     verb(
         alloc,
         "run",
-        "Prints the transcript of a script, or each call of a list with its reply",
+        "Print the transcript of a script or call list",
     )?
     .arg(json)?
     .arg(word(alloc, "FILE", FILE))
 }
 
-/// The verb for what is learned. An error is want of memory.
-fn learns<'a>(alloc: Global) -> Result<Command<'a>, AllocError> {
+/// The verb for what is learned. Fails only if memory runs out.
+fn learn<'a>(alloc: Global) -> Result<Command<'a>, AllocError> {
     let how = Arg::new(alloc, "how")
         .long("how")
         .action(ArgAction::SetTrue)
         .help(
-            "Of a script: behind each line a command of theirs that would tell it, with its answers before and after",
+            "After each line, show a command of theirs that would reveal it (scripts only; slow)",
         );
     verb(
         alloc,
-        "learns",
-        "Prints that, and behind each command of others what WHO learn by it",
+        "learn",
+        "Print the transcript and, after each command by others, what WHO learn from it",
     )?
     .arg(how)?
     .arg(word(alloc, "WHO", WHO))?
     .arg(word(alloc, "FILE", FILE))
 }
 
-/// The verb for a random text. An error is want of memory.
+/// The verb for a random text. Fails only if memory runs out.
 fn sample<'a>(alloc: Global) -> Result<Command<'a>, AllocError> {
     let calls = Arg::new(alloc, "calls")
         .long("calls")
         .action(ArgAction::SetTrue)
-        .help("Prints a list of calls");
+        .help("Print a call list");
     let count = Arg::new(alloc, "COUNT")
         .action(ArgAction::Set)
-        .help("how many commands or calls, 20 where none is given");
+        .help("number of commands or calls [default: 20]");
     Command::new(alloc, "sample")
-        .about("Prints a random script, the same for the same SEED")
+        .about("Generate a random script or call list")
         .arg(calls)?
-        .arg(word(alloc, "SEED", "a number, 0 to 18446744073709551615"))?
+        .arg(word(
+            alloc,
+            "SEED",
+            "0 to 18446744073709551615; the same seed gives the same output",
+        ))?
         .arg(count)
 }
 
-/// The verb for two scripts. An error is want of memory.
-fn tell<'a>(alloc: Global) -> Result<Command<'a>, AllocError> {
-    let about =
-        "Runs two scripts, and prints where WHO first see something else in the second, and where they are first told something else";
-    Command::new(alloc, "tell")
+/// The verb for two scripts. Fails only if memory runs out.
+fn compare<'a>(alloc: Global) -> Result<Command<'a>, AllocError> {
+    let about = "Run two scripts and report whether WHO can tell them apart";
+    Command::new(alloc, "compare")
         .about(about)
-        .arg(word(alloc, "WHO", "users of both scripts, between commas"))?
+        .arg(word(alloc, "WHO", "comma-separated users of both scripts"))?
         .arg(word(alloc, "ONE", SCRIPT))?
         .arg(word(alloc, "TWO", SCRIPT))
 }
 
-/// The whole command line. An error is want of memory.
+/// The whole command line. Fails only if memory runs out.
 pub fn hurd<'a>(alloc: Global) -> Result<Command<'a>, AllocError> {
-    let see = verb(alloc, "see", "Prints all that WHO see at the end")?
+    let see = verb(alloc, "see", "Print everything that WHO can see at the end")?
         .arg(word(alloc, "WHO", WHO))?
         .arg(word(alloc, "FILE", FILE))?;
     let marked = Arg::new(alloc, "as")
         .long("as")
         .value_name("WHO")
         .action(ArgAction::Set)
-        .help("Marks what WHO see");
+        .help("Mark what WHO can see");
     let draw = verb(
         alloc,
         "draw",
-        "Prints a picture of the tree at the end, for Graphviz",
+        "Print the tree at the end as a Graphviz graph",
     )?
     .arg(marked)?
     .arg(word(alloc, "FILE", FILE))?;
@@ -117,9 +120,9 @@ pub fn hurd<'a>(alloc: Global) -> Result<Command<'a>, AllocError> {
         .subcommand_required(true)
         .arg_required_else_help(true)
         .subcommand(run(alloc)?)?
-        .subcommand(learns(alloc)?)?
+        .subcommand(learn(alloc)?)?
         .subcommand(see)?
         .subcommand(draw)?
-        .subcommand(tell(alloc)?)?
+        .subcommand(compare(alloc)?)?
         .subcommand(sample(alloc)?)
 }

@@ -1,5 +1,5 @@
 //! The files that are asked for.
-use crate::shown::shown;
+use crate::shown::shown_file;
 use crate::words::{Asked, TROUBLE, Wanted, trouble};
 use hurd_program::{
     TextSort, perform, perform_pair, perform_sample, perform_vectors, perform_witnesses,
@@ -13,10 +13,10 @@ use std::io::{ErrorKind, IsTerminal, Read, Write};
 /// What standard input is called.
 const STANDARD_INPUT: &[u8] = b"standard input";
 
-/// The name of a file as it is printed, so that it is never a line of the program's own. An error is want of memory.
+/// The name of a file as it is printed, so that it is never a line, a place or a reason of the program's own. Fails only if memory runs out.
 fn name_of(alloc: Global, file: &str) -> Result<Vec<u8>, AllocError> {
     if file != "-" {
-        return shown(alloc, file);
+        return shown_file(alloc, file);
     }
     let mut name = Vec::new(alloc);
     name.extend_from_slice(STANDARD_INPUT)?;
@@ -49,7 +49,7 @@ fn give_sample(rt: &HostRuntime, sort: TextSort, seed: u64, count: u64) -> u8 {
 }
 
 /// Compares two scripts that two readers give; answers the exit status.
-fn tell_from<R: Read + Drop, Q: Read + Drop>(
+fn compare_from<R: Read + Drop, Q: Read + Drop>(
     rt: &HostRuntime,
     who: &str,
     names: (&[u8], &[u8]),
@@ -95,7 +95,7 @@ fn await_text(rt: &HostRuntime) {
     if rt.stdin().is_terminal() {
         trouble(
             rt,
-            b"hurd: reading from the terminal; Ctrl-D ends the text\n",
+            b"hurd: reading from the terminal; Ctrl-D ends the input\n",
         );
     }
 }
@@ -113,7 +113,7 @@ fn serve_one(rt: &HostRuntime, wanted: &Wanted, file: &str, name: &[u8]) -> u8 {
 }
 
 /// Compares a script that a reader gives with that of a second file; answers the exit status.
-fn tell_second<R: Read + Drop>(
+fn compare_second<R: Read + Drop>(
     rt: &HostRuntime,
     who: &str,
     names: (&[u8], &[u8]),
@@ -122,38 +122,38 @@ fn tell_second<R: Read + Drop>(
 ) -> u8 {
     if two == "-" {
         await_text(rt);
-        return tell_from(rt, who, names, one, rt.reader());
+        return compare_from(rt, who, names, one, rt.reader());
     }
     match File::open(rt, two) {
-        Ok(opened) => tell_from(rt, who, names, one, opened),
+        Ok(opened) => compare_from(rt, who, names, one, opened),
         Err(error) => unopened(rt, names.1, error.kind()),
     }
 }
 
 /// Compares the scripts of two files; answers the exit status.
-fn tell_files(rt: &HostRuntime, who: &str, names: (&[u8], &[u8]), one: &str, two: &str) -> u8 {
+fn compare_files(rt: &HostRuntime, who: &str, names: (&[u8], &[u8]), one: &str, two: &str) -> u8 {
     if one != "-" {
         return match File::open(rt, one) {
-            Ok(opened) => tell_second(rt, who, names, opened, two),
+            Ok(opened) => compare_second(rt, who, names, opened, two),
             Err(error) => unopened(rt, names.0, error.kind()),
         };
     }
     if two == "-" {
         return trouble(
             rt,
-            b"hurd: standard input can be one of the two scripts only\n",
+            b"hurd: only one of the two scripts can be standard input\n",
         );
     }
     await_text(rt);
-    tell_second(rt, who, names, rt.reader(), two)
+    compare_second(rt, who, names, rt.reader(), two)
 }
 
 /// Compares the scripts that are asked for; answers the exit status.
-fn tell_pair(rt: &HostRuntime, who: &str, one: &str, two: &str) -> u8 {
+fn compare_pair(rt: &HostRuntime, who: &str, one: &str, two: &str) -> u8 {
     let (Ok(first), Ok(second)) = (name_of(rt.alloc(), one), name_of(rt.alloc(), two)) else {
         return trouble(rt, b"hurd: out of memory\n");
     };
-    tell_files(rt, who, (first.as_slice(), second.as_slice()), one, two)
+    compare_files(rt, who, (first.as_slice(), second.as_slice()), one, two)
 }
 
 /// Does what is asked of the files; answers the exit status.
@@ -163,7 +163,7 @@ pub fn serve(rt: &HostRuntime, asked: &Asked) -> u8 {
             Ok(name) => serve_one(rt, wanted, file.as_str(), name.as_slice()),
             Err(_) => trouble(rt, b"hurd: out of memory\n"),
         },
-        Asked::Pair { who, one, two } => tell_pair(rt, who.as_str(), one.as_str(), two.as_str()),
+        Asked::Pair { who, one, two } => compare_pair(rt, who.as_str(), one.as_str(), two.as_str()),
         Asked::Sample { sort, seed, count } => give_sample(rt, *sort, *seed, *count),
     }
 }

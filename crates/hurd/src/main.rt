@@ -1,7 +1,7 @@
-//! Runs scripts of several users' commands and lists of calls over a file tree in memory, and says what users learn by them.
+//! Runs scripts of several users' commands and call lists over a file tree in memory, and reports what users learn by them.
 //!
-//! `hurd --help` says how it is called. Status 0 where all went well; 1 for a bad text, where somebody is named who isn't in it, or where two scripts are no
-//! pair; 2 where something can't be read or written, where there is no memory, and for a bad command line; 3 where some are told otherwise by two scripts. What is wrong is said on standard error.
+//! `hurd --help` says how it is called. The exit status is 0 on success; 1 for a bad text, if somebody is named who isn't in it, or if two scripts cannot be
+//! compared; 2 if a read or a write fails, memory runs out, or the command line is wrong; 3 if somebody gets a different reply in the second of two scripts.
 #![tactic(auto)]
 
 mod command;

@@ -28,7 +28,7 @@ pub enum Asked {
         wanted: Wanted,
         file: String,
     },
-    /// Whether these are told the same by two scripts.
+    /// Whether these get the same replies in two scripts.
     Pair {
         who: String,
         one: String,
@@ -67,18 +67,18 @@ impl Unasked {
     fn line(self) -> &'static [u8] {
         match self {
             Unasked::NoList => {
-                b"hurd: vectors are made of a list of calls: its name ends with .calls, or --calls says that it is one\n"
+                b"hurd: --json is for call lists: the file's name ends in .calls, or --calls is given\n"
             }
             Unasked::NoScript =>
-                b"hurd: --how is for scripts: no command is tried in a list of calls\n",
-            Unasked::Seed => b"hurd: SEED is a number, 0 to 18446744073709551615\n",
-            Unasked::Count => b"hurd: COUNT is a number, 0 to 18446744073709551615\n",
+                b"hurd: --how is for scripts: it tries no commands in a call list\n",
+            Unasked::Seed => b"hurd: SEED must be a number from 0 to 18446744073709551615\n",
+            Unasked::Count => b"hurd: COUNT must be a number from 0 to 18446744073709551615\n",
             Unasked::Memory => b"hurd: out of memory\n",
         }
     }
 }
 
-/// The text of a word; nothing where it isn't there. An error is want of memory.
+/// The text of a word; nothing where it isn't there. Fails only if memory runs out.
 fn text_of(alloc: Global, matches: &ArgMatches<'_>, id: &str) -> Result<String, AllocError> {
     match matches.get_str(id) {
         Some(text) => String::from_str(alloc, text),
@@ -86,7 +86,7 @@ fn text_of(alloc: Global, matches: &ArgMatches<'_>, id: &str) -> Result<String, 
     }
 }
 
-/// Those whose sight is marked in a picture, if any are named. An error is want of memory.
+/// Those whose sight is marked in a picture, if any are named. Fails only if memory runs out.
 fn named_by(alloc: Global, matches: &ArgMatches<'_>) -> Result<Option<String>, AllocError> {
     match matches.get_str("as") {
         Some(who) => Ok(Some(String::from_str(alloc, who)?)),
@@ -97,14 +97,14 @@ fn named_by(alloc: Global, matches: &ArgMatches<'_>) -> Result<Option<String>, A
 /// What is asked by a verb and its words.
 fn asked_by(alloc: Global, verb: &str, matches: &ArgMatches<'_>) -> Result<Asked, Unasked> {
     match verb {
-        "tell" => Ok(Asked::Pair {
+        "compare" => Ok(Asked::Pair {
             who: text_of(alloc, matches, "WHO")?,
             one: text_of(alloc, matches, "ONE")?,
             two: text_of(alloc, matches, "TWO")?,
         }),
         "sample" => sample_of(matches),
         "run" if matches.get_flag("json") => vectors_of(alloc, matches),
-        "learns" if matches.get_flag("how") => witnesses_of(alloc, matches),
+        "learn" if matches.get_flag("how") => witnesses_of(alloc, matches),
         _ => Ok(request_of(alloc, verb, matches)?),
     }
 }
@@ -171,18 +171,18 @@ fn sort_of(matches: &ArgMatches<'_>, file: &String) -> TextSort {
     }
 }
 
-/// The same of a verb for one file. An error is want of memory.
+/// The same of a verb for one file. Fails only if memory runs out.
 fn request_of(alloc: Global, verb: &str, matches: &ArgMatches<'_>) -> Result<Asked, AllocError> {
     let file = text_of(alloc, matches, "FILE")?;
     let sort = sort_of(matches, &file);
     let verb = match verb {
-        "learns" => Verb::Learns {
+        "learn" => Verb::Learn {
             who: text_of(alloc, matches, "WHO")?,
         },
-        "see" => Verb::Sees {
+        "see" => Verb::See {
             who: text_of(alloc, matches, "WHO")?,
         },
-        "draw" => Verb::Draws {
+        "draw" => Verb::Draw {
             who: named_by(alloc, matches)?,
         },
         _ => Verb::Run,
@@ -212,7 +212,7 @@ fn is_refusal(error: &Error) -> bool {
     error.use_stderr() && !matches!(error.kind(), ErrorKind::OutOfMemory)
 }
 
-/// What clap says of words that it refuses; nothing of words that it takes. An error is want of memory.
+/// What clap says of words that it refuses; nothing of words that it takes. Fails only if memory runs out.
 fn refusal(alloc: Global, words: &[String]) -> Result<Option<Error>, AllocError> {
     let command = hurd(alloc)?;
     Ok(command.try_get_matches_from(words).err())
@@ -226,10 +226,7 @@ fn refuse(rt: &HostRuntime, words: &[String]) -> u8 {
     };
     match refusal(rt.alloc(), words.as_slice()) {
         Ok(Some(error)) => tell(rt, &error),
-        Ok(None) => trouble(
-            rt,
-            b"hurd: a word of the command line is no printable text\n",
-        ),
+        Ok(None) => trouble(rt, b"hurd: a command-line argument is not printable text\n"),
         Err(_) => trouble(rt, b"hurd: out of memory\n"),
     }
 }
@@ -260,7 +257,7 @@ pub fn read_words(rt: &HostRuntime) -> Result<Asked, u8> {
         Err(error) if error.kind() == io::ErrorKind::OutOfMemory => {
             return Err(trouble(rt, b"hurd: out of memory\n"));
         }
-        Err(_) => return Err(trouble(rt, b"hurd: a word of the command line is no text\n")),
+        Err(_) => return Err(trouble(rt, b"hurd: a command-line argument is not valid UTF-8\n")),
     };
     match arguments.collect::<Vec<String>>(rt.alloc()) {
         Ok(words) => parsed(rt, words.as_slice()),

@@ -81,7 +81,7 @@ pub extern "C" fn hurd_learn(
     };
     match named(alloc, who) {
         Ok(who) => {
-            let verb = Verb::Learns { who };
+            let verb = Verb::Learn { who };
             told(alloc, &Request { sort, verb }, text, out)
         }
         Err(fault) => ending(Err(fault), 0),
@@ -104,7 +104,7 @@ pub extern "C" fn hurd_see(
     };
     match named(alloc, who) {
         Ok(who) => {
-            let verb = Verb::Sees { who };
+            let verb = Verb::See { who };
             told(alloc, &Request { sort, verb }, text, out)
         }
         Err(fault) => ending(Err(fault), 0),
@@ -127,7 +127,7 @@ pub extern "C" fn hurd_draw(
     };
     match marked(alloc, who) {
         Ok(who) => {
-            let verb = Verb::Draws { who };
+            let verb = Verb::Draw { who };
             told(alloc, &Request { sort, verb }, text, out)
         }
         Err(fault) => ending(Err(fault), 0),

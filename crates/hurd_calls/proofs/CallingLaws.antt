@@ -13,9 +13,10 @@ use Rattle.hurd_laws.specs.Called.{Called}
 use Rattle.hurd_lists.specs.Calls.{with_server}
 use Rattle.hurd_lists.proofs.CallLemmas.{served_by}
 use Rattle.hurd_lists.specs.Lists.{listed_by}
-use Rattle.hurd_lists.specs.Replies.{told}
+use Rattle.hurd_lists.specs.Replies.{answered}
 use Rattle.hurd_lists.specs.declared.reader.ListedCall.{ListedCall}
-use Rattle.hurd_calls.specs.Making.{part_of, after_call}
+use Rattle.hurd_words.specs.declared.answers.Answer.{Answer}
+use Rattle.hurd_calls.specs.Making.{after_call, answer_to}
 use Rattle.hurd_lists.specs.Calls.{begun}
 
 -- want of memory, whatever boxes mean
@@ -44,8 +45,8 @@ module _ {S : Type 0} (f : S → Meaning) (listed : ListedCall S) (server : Opti
     right =
         told_right f r w listed.task.0 (listed_by f listed).call x (subst (λ (c : Call). Called w listed.task.0 c (reply_by f r) x) made_call called) has
 
-    pub part_right : (line part : List ℕ) → line ≡ listed.line → part ≡ told line (reply_by f r) → part ≡ part_of (listed_by f listed) w
-    part_right line part here e = e ∙ (ap (λ (bs : List ℕ). told bs (reply_by f r)) here ∙ ap (told listed.line) right.0)
+    pub answer_right : (line : List ℕ) (answer : Answer) → line ≡ listed.line → answer ≡ answered line (reply_by f r) → answer ≡ answer_to (listed_by f listed) w
+    answer_right line answer here e = e ∙ (ap (λ (bs : List ℕ). answered bs (reply_by f r)) here ∙ ap (answered listed.line) right.0)
 
     pub world_right : x ≡ after_call (listed_by f listed) w
     world_right = right.1

@@ -7,10 +7,11 @@ use Rattle.hurd_kinds.specs.declared.server_box.ServerBox.{ServerBox}
 use Rattle.hurd_lists.specs.Lists.{listed_by}
 use Rattle.hurd_lists.specs.declared.reader.ListedCall.{ListedCall}
 use Rattle.hurd_terminal.proofs.RunLaws.{HasLimit}
+use Rattle.hurd_words.specs.declared.answers.Answer.{Answer}
 use Rattle.hurd_world.specs.Held.{Whole, world_of}
 use Rattle.hurd_dialogue.specs.Parts.{Goes, next_task}
 use Rattle.hurd_calls.specs.Lists.{lists, way_of}
-use Rattle.hurd_calls.specs.Making.{after_call, part_of, parts_of}
+use Rattle.hurd_calls.specs.Making.{after_call, answer_to, parts_of}
 
 -- a list that is too long is bad at line 0
 said_long : (xs : List ℕ) → 1048576 < length xs → lists.complaint xs ≡ codes ": longer than 1048576 bytes\n"
@@ -23,13 +24,13 @@ lists_limited = record {
 }
 
 -- the next call is made
-pub call_goes : (w x : Whole ServerBox) (c : ListedCall ServerBox) (calls rest : List (ListedCall ServerBox)) (n m tasks : ℕ) (part : List ℕ) → calls ≡ c ∷ rest → m ≡ n + 1
-    → part ≡ part_of (listed_by box_meaning c) (world_of box_meaning w) → world_of box_meaning x ≡ after_call (listed_by box_meaning c) (world_of box_meaning w)
-    → Goes (way_of w calls n tasks) (Some part) (way_of x rest m tasks)
+pub call_goes : (w x : Whole ServerBox) (c : ListedCall ServerBox) (calls rest : List (ListedCall ServerBox)) (n m tasks : ℕ) (answer : Answer) → calls ≡ c ∷ rest → m ≡ n + 1
+    → answer ≡ answer_to (listed_by box_meaning c) (world_of box_meaning w) → world_of box_meaning x ≡ after_call (listed_by box_meaning c) (world_of box_meaning w)
+    → Goes (way_of w calls n tasks) (Some answer) (way_of x rest m tasks)
 unfolding parts_of
-call_goes w x c calls rest n m tasks part is count text next = (
+call_goes w x c calls rest n m tasks answer is count said next = (
   c.task.0,
-  rw is (λ i. record { task = c.task.0; text = sym text i; world = sym next i } ∷ parts_of (map (listed_by box_meaning) rest) (sym next i)),
+  rw is (λ i. record { task = c.task.0; answer = sym said i; world = sym next i } ∷ parts_of (map (listed_by box_meaning) rest) (sym next i)),
   count,
 )
 

@@ -17,7 +17,7 @@ use Rattle.hurd_calls.specs.Tasks.{called, task_of}
 -- a list tells each of its calls with its reply, made over an empty tree in memory. Its tasks' lines stand in front of them
 abbrev pub lists : Sort
 lists = record {
-  complaint = λ text. complaint_by (codes ": bad calls: ") text (bad_line (reading_of text)) (flaw_in (reading_of text));
+  complaint = λ text. complaint_by (codes ": bad call list: ") text (bad_line (reading_of text)) (flaw_in (reading_of text));
   stranger = codes ": no such task: ";
   thing = codes " call";
   bad = λ text. bad_line (reading_of text);

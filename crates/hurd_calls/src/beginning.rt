@@ -54,7 +54,13 @@ fn blamed(alloc: Global, text: &[u8], fault: ListFault) -> Result<Vec<u8>, Alloc
     ensures { IfOk result (λ said. said.items ≡ lists.complaint text.now) }
 {
     match fault {
-        ListFault::Bad { line, flaw } => complaint(alloc, ": bad calls: ", text, line, flaw.text()),
+        ListFault::Bad { line, flaw } => complaint(
+            alloc,
+            ": bad call list: ",
+            text,
+            line,
+            flaw.text(),
+        ),
         ListFault::Memory => Err(AllocError),
     }
 }

@@ -6,12 +6,13 @@ ghost use Rattle.hurd_world.specs.Held.{state_of, world_of};
 ghost use Rattle.hurd_world.specs.Noting.{NotesWhatIsTouched};
 ghost use Rattle.hurd_lists.specs.Calls.{begun};
 ghost use Rattle.hurd_lists.specs.Lists.{listed_by};
-ghost use Rattle.hurd_calls.specs.Making.{after_call, part_of};
+ghost use Rattle.hurd_calls.specs.Making.{after_call, answer_to};
 
-use hurd_creds::{Bytes, Errno};
+use hurd_creds::Errno;
 use hurd_kinds::{ServerBox, server_for};
-use hurd_lists::{ListedCall, told, with_server};
+use hurd_lists::{ListedCall, answered, with_server};
 use hurd_trans_iface::{Server, Words};
+use hurd_words::answers::Answer;
 use hurd_world::{Reply, World};
 use std::alloc::{AllocError, Global};
 
@@ -25,15 +26,15 @@ pub fn brought(alloc: Global, words: &Option<Words>) -> Result<Option<ServerBox>
     }
 }
 
-/// Makes a call with the server that its words make, and gives what is printed of it. An error is want of memory: then the call was made, or nothing changed.
-pub fn part<S: Server>(
+/// Makes a call with the server that its words make, and gives its answer. Fails only if memory runs out: then the call was made, or nothing changed.
+pub fn answer<S: Server>(
     world: &mut World<S>,
     alloc: Global,
     listed: ListedCall<S>,
     server: Option<S>,
-) -> Result<Bytes, AllocError>
+) -> Result<Answer, AllocError>
     requires { begun listed.server ≡ option_map S.meaning server }
-    ensures part { IfOk result (λ part. part ≡ part_of (listed_by S.meaning listed) (world_of S.meaning world.old)) }
+    ensures answer { IfOk result (λ answer. answer ≡ answer_to (listed_by S.meaning listed) (world_of S.meaning world.old)) }
     ensures world { OnOk result (world_of S.meaning world.new ≡ after_call (listed_by S.meaning listed) (world_of S.meaning world.old)) }
     ensures err { IfErr result (λ _. (world_of S.meaning world.new ≡ world_of S.meaning world.old)
         ⊎ (world_of S.meaning world.new ≡ after_call (listed_by S.meaning listed) (world_of S.meaning world.old))) }
@@ -49,5 +50,5 @@ pub fn part<S: Server>(
     if reply.lacks_memory() {
         return Err(AllocError);
     }
-    Ok(told(alloc, line.as_slice(), &reply)?)
+    Ok(answered(alloc, line, &reply)?)
 }

@@ -6,12 +6,13 @@ ghost use Rattle.hurd_calls.specs.Lists.{lists, way_of};
 ghost use Rattle.hurd_calls.specs.Tasks.{noun_of, task_of};
 
 use crate::beginning::{begun, complaint_of, parsed};
-use crate::calling::{brought, part};
-use hurd_creds::{Bytes, TaskId, number};
+use crate::calling::{answer, brought};
+use hurd_creds::{TaskId, number};
 use hurd_dialogue::{Telling, boxed};
 use hurd_kinds::{ServerBox, empty_tree};
 use hurd_lists::{CallList, ListedCall};
 use hurd_terminal::Fault;
+use hurd_words::answers::Answer;
 use hurd_world::{Noted, World};
 use std::alloc::{AllocError, Global};
 use std::collections::VecDeque;
@@ -68,13 +69,13 @@ impl Telling for RunningCalls {
         Ok(boxed(alloc, running)?)
     }
 
-    fn next(&mut self, alloc: Global) -> Result<Option<Bytes>, AllocError> {
+    fn next(&mut self, alloc: Global) -> Result<Option<Answer>, AllocError> {
         let Some(listed) = self.calls.pop_front() else {
             return Ok(None);
         };
         self.told += 1;
         let server = brought(alloc, &listed.server)?;
-        Ok(Some(part(&mut self.world, alloc, listed, server)?))
+        Ok(Some(answer(&mut self.world, alloc, listed, server)?))
     }
 
     fn note(&mut self) {

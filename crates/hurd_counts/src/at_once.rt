@@ -11,7 +11,7 @@ use crate::run::followed;
 use hurd_calls::brought;
 use hurd_creds::{Bytes, TaskId};
 use hurd_kinds::ServerBox;
-use hurd_lists::{ListedCall, told, with_server};
+use hurd_lists::{ListedCall, answered, with_server};
 use hurd_terminal::{Fault, Output};
 use hurd_trans_iface::Server;
 use hurd_world::{Call, Reply, World};
@@ -87,8 +87,9 @@ fn tell<S: Server, W: Write>(
     if reply.lacks_memory() {
         return Err(Fault::Memory);
     }
-    let part = told(alloc, line.as_slice(), reply)?;
-    output.print(part.as_slice())
+    let line = Bytes::copied(alloc, line.as_slice())?;
+    let text = answered(alloc, line, reply)?.plain(alloc)?;
+    output.print(text.as_slice())
 }
 
 /// Prints calls and their replies.

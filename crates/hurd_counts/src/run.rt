@@ -7,7 +7,7 @@ ghost use Rattle.hurd_tmpfs.specs.Tree.{new_tmpfs};
 use crate::at_once::make_at_once;
 use crate::boxes::Boxes;
 use crate::counted::Counted;
-use hurd_calls::{begun, brought, complaint_of, parsed, part};
+use hurd_calls::{answer, begun, brought, complaint_of, parsed};
 use hurd_creds::{Bytes, Ids};
 use hurd_kinds::{ServerBox, empty_tree};
 use hurd_lists::{CallList, ListedCall};
@@ -57,7 +57,8 @@ pub fn made<S: Server>(
     requires { begun listed.server ≡ option_map S.meaning server }
 {
     let server = followed(alloc, boxes, server)?;
-    Ok(part(world, alloc, listed, server)?)
+    let answer = answer(world, alloc, listed, server)?;
+    Ok(Bytes::new(answer.plain(alloc)?))
 }
 
 /// Makes a call with the server that its words make, and prints it, its reply, and what became of boxes.
@@ -108,7 +109,7 @@ pub enum Manner {
 ///
 /// `Bad`, `Boot`, `Write`, `Memory`.
 #[tactic(auto, unfolding(hurd_kinds::specs::Boxes::box_meaning))]
-fn answer<W: Write>(
+fn perform<W: Write>(
     alloc: Global,
     text: &[u8],
     manner: Manner,
@@ -134,7 +135,7 @@ fn run_text<W: Write>(
     output: &mut Output<W>,
 ) -> Result<(), Fault> {
     let mut boxes = Boxes::new(alloc);
-    answer(alloc, text, manner, &mut boxes, output)?;
+    perform(alloc, text, manner, &mut boxes, output)?;
     output.print(b"the world is dropped\n")?;
     boxes.tell(alloc, output)
 }

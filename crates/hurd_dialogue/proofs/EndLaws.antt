@@ -1,6 +1,7 @@
 -- The world at the end of a text, from each point of its way on.
 use Rattle.std.proofs.Common.{◌≡◌, ◌∙◌, ℕ, List, [], ◌∷◌, Some, None, refl, sym, ap}
 use Rattle.hurd_machine.specs.World.{World}
+use Rattle.hurd_words.specs.declared.answers.Answer.{Answer}
 use Rattle.hurd_dialogue.specs.Parts.{Goes, Part, Way, world_behind}
 
 no_more : (w : World) → world_behind w [] ≡ w
@@ -16,8 +17,8 @@ abbrev pub end_of : Way → World
 end_of way = world_behind way.world way.left
 
 -- a part that is told doesn't change where it ends
-pub end_stays : (old new : Way) (text : List ℕ) → Goes old (Some text) new → end_of new ≡ end_of old
-end_stays old new text goes = sym (ap (world_behind old.world) goes.1 ∙ one_more old.world _ new.left)
+pub end_stays : (old new : Way) (answer : Answer) → Goes old (Some answer) new → end_of new ≡ end_of old
+end_stays old new answer goes = sym (ap (world_behind old.world) goes.1 ∙ one_more old.world _ new.left)
 
 -- where none is left, it is there
 pub at_end : (old new : Way) → Goes old None new → new.world ≡ end_of old

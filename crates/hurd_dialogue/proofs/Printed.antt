@@ -4,6 +4,8 @@ use Rattle.std.specs.Io.KnownBytes.{Appends}
 use Rattle.std.proofs.Common.{◌≡◌, ◌∙◌, ℕ, List, [], ◌++◌, Ok, Err, Some, None, ◌≢◌, ap, append-nil, append_assoc, refl, subst, suc, sym, length}
 use Rattle.std.proofs.KnownBytes.{Appends-nil, Appends-trans}
 use Rattle.hurd_creds.specs.declared.errno.Errno.{Errno}
+use Rattle.hurd_words.specs.Answers.{plain}
+use Rattle.hurd_words.specs.declared.answers.Answer.{Answer}
 use Rattle.hurd_terminal.specs.Faults.{AppendsFront, IsFront, IsPrintFault}
 use Rattle.hurd_terminal.specs.Runs.{Adds, IsTaken, Prints, Program}
 use Rattle.hurd_terminal.specs.declared.fault.Fault.{Fault}
@@ -32,21 +34,21 @@ module _ (whole : List ℕ) (before now : Option (List ℕ)) (old : Way) (so : P
   pub all_printed : (new : Way) → Goes old None new → Appends before now whole
   all_printed new none = subst (λ (bs : List ℕ). Appends before now bs) (sym (so.split ∙ (ap (λ (ps : List Part). so.printed ++ joined ps) none.0 ∙ append-nil so.printed))) so.appends
 
-  module _ (new : Way) (text : List ℕ) (goes : Goes old (Some text) new) where
-    split_on : whole ≡ (so.printed ++ text) ++ joined new.left
-    split_on = so.split ∙ (ap (λ (ps : List Part). so.printed ++ joined ps) goes.1 ∙ sym (append_assoc so.printed text (joined new.left)))
+  module _ (new : Way) (answer : Answer) (goes : Goes old (Some answer) new) where
+    split_on : whole ≡ (so.printed ++ plain answer) ++ joined new.left
+    split_on = so.split ∙ (ap (λ (ps : List Part). so.printed ++ joined ps) goes.1 ∙ sym (append_assoc so.printed (plain answer) (joined new.left)))
 
-    -- the part was printed
-    pub part_printed : (then : Option (List ℕ)) → Appends now then text → PrintedSoFar whole before then new.left
-    part_printed then adds = record { printed = so.printed ++ text; split = split_on; appends = Appends-trans before now then so.printed text so.appends adds }
+    -- the answer was printed
+    pub part_printed : (then : Option (List ℕ)) → Appends now then (plain answer) → PrintedSoFar whole before then new.left
+    part_printed then adds = record { printed = so.printed ++ plain answer; split = split_on; appends = Appends-trans before now then so.printed (plain answer) so.appends adds }
 
     -- or a front of it
-    pub part_cut : (then : Option (List ℕ)) → AppendsFront now then text → AppendsFront before then whole
-    part_cut then cut = front_follows before now then whole so.printed text (joined new.left, split_on) so.appends cut
+    pub part_cut : (then : Option (List ℕ)) → AppendsFront now then (plain answer) → AppendsFront before then whole
+    part_cut then cut = front_follows before now then whole so.printed (plain answer) (joined new.left, split_on) so.appends cut
 
 -- one part less is left
-pub one_less : (old new : Way) (text : List ℕ) → Goes old (Some text) new → length old.left ≡ suc (length new.left)
-one_less old new text goes = ap length goes.1
+pub one_less : (old new : Way) (answer : Answer) → Goes old (Some answer) new → length old.left ≡ suc (length new.left)
+one_less old new answer goes = ap length goes.1
 
 -- a text that was begun has its whole transcript before it, and printed it, or a front of it
 

@@ -3,21 +3,23 @@ use Rattle.std.specs.Prelude.{◌≡◌, ℕ, ◌+◌, List, [], ◌∷◌, Opti
 use Rattle.std.specs.List.{concat}
 use Rattle.hurd_machine.specs.World.{World}
 use Rattle.hurd_touches.specs.declared.noted.Noted.{Noted}
+use Rattle.hurd_words.specs.Answers.{plain}
+use Rattle.hurd_words.specs.declared.answers.Answer.{Answer}
 use Rattle.hurd_world.specs.Noting.{State}
 
--- a part that is told: of what which task did, what stands in the output, and the world behind it
+-- a part that is told: of what which task did, what it was answered, and the world after it
 pub record Part : Type 0 where
   pub task : ℕ
-  pub text : List ℕ
+  pub answer : Answer
   pub world : World
 
--- the texts of parts
-abbrev pub texts : List Part → List (List ℕ)
-texts parts = map (λ (p : Part). p.text) parts
+-- the answers of parts
+abbrev pub answers : List Part → List Answer
+answers parts = map (λ (p : Part). p.answer) parts
 
--- all that is told, joined
+-- all that is told, as `hurd run` prints it
 abbrev pub joined : List Part → List ℕ
-joined parts = concat (texts parts)
+joined parts = concat (map plain (answers parts))
 
 -- the task of the next part
 abbrev pub next_task : List Part → Option ℕ
@@ -43,7 +45,7 @@ pub record Way : Type 0 where
 abbrev pub standing : Way → Noted → State
 standing way noted = record { world = way.world; noted = noted }
 
--- the next part was told, and this is its text; or there is none, and nothing changed
-abbrev pub Goes : Way → Option (List ℕ) → Way → Type 0
+-- the next part was told, and this is its answer; or there is none, and nothing changed
+abbrev pub Goes : Way → Option Answer → Way → Type 0
 Goes old None new = (old.left ≡ []) × (new ≡ old)
-Goes old (Some text) new = (task : ℕ) × (old.left ≡ record { task = task; text = text; world = new.world } ∷ new.left) × (new.told ≡ old.told + 1)
+Goes old (Some answer) new = (task : ℕ) × (old.left ≡ record { task = task; answer = answer; world = new.world } ∷ new.left) × (new.told ≡ old.told + 1)

@@ -23,8 +23,9 @@ pub fn play<T: Telling, W: Write>(
     ensures err { IfErr result (λ fault. IsPrintFault output.new fault
         × AppendsFront (W.contents output.old.writer) (W.contents output.new.writer) (joined (T.way telling.old).left)) }
 {
-    while let Some(part) = telling.next(alloc)? {
-        output.print(part.as_slice())?;
+    while let Some(answer) = telling.next(alloc)? {
+        let text = answer.plain(alloc)?;
+        output.print(text.as_slice())?;
     }
     Ok(())
 }
@@ -33,7 +34,7 @@ pub fn play<T: Telling, W: Write>(
 pub fn play_silently<T: Telling>(alloc: Global, telling: &mut T) -> Result<(), AllocError>
     ensures { OnOk result ((T.way telling.new).world ≡ world_behind (T.way telling.old).world (T.way telling.old).left) }
 {
-    while let Some(_part) = telling.next(alloc)? {}
+    while let Some(_answer) = telling.next(alloc)? {}
     Ok(())
 }
 

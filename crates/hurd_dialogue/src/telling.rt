@@ -10,9 +10,10 @@ ghost use Rattle.hurd_world.specs.Noting.{NotesWhatIsTouched};
 ghost use Rattle.hurd_dialogue.specs.Parts.{Goes, Way, next_task, standing};
 ghost use Rattle.hurd_dialogue.specs.Sorts.{Begins, NotBegun, Sort};
 
-use hurd_creds::{Bytes, TaskId};
+use hurd_creds::TaskId;
 use hurd_kinds::ServerBox;
 use hurd_terminal::Fault;
+use hurd_words::answers::Answer;
 use hurd_world::{Noted, World};
 use std::alloc::{AllocError, Global};
 
@@ -35,9 +36,10 @@ pub trait Telling: Drop {
         ensures sound { IfOk result (λ telling. Sound (way telling.value).world) }
         ensures err { IfErr result (λ fault. NotBegun sort text.now fault) };
 
-    /// The next part; none where all were told, and then nothing changes. An error is want of memory: the part is lost, and the text is to be dropped.
-    fn next(&mut self, alloc: Global) -> Result<Option<Bytes>, AllocError>
-        ensures goes { IfOk result (λ part. Goes (way self.old) part (way self.new)) }
+    /// What the next part is answered; none if all were told, and then nothing changes. Fails only if memory runs out: the part is lost, and the text is to be
+    /// dropped.
+    fn next(&mut self, alloc: Global) -> Result<Option<Answer>, AllocError>
+        ensures goes { IfOk result (λ answer. Goes (way self.old) answer (way self.new)) }
         ensures noted { OnOk result (NotesWhatIsTouched (standing (way self.old) (noted self.old)) (standing (way self.new) (noted self.new))) };
 
     /// Notes from now on which parts calls touch.

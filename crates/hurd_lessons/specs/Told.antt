@@ -9,6 +9,7 @@ use Rattle.hurd_views.specs.Views.{Views}
 use Rattle.hurd_views.specs.declared.view.View.{View}
 use Rattle.hurd_words.specs.Sentences.{InSentences}
 use Rattle.hurd_words.specs.Turns.{paragraph}
+use Rattle.hurd_words.specs.declared.answers.Answer.{Answer}
 use Rattle.hurd_lessons.specs.Lessons.{Lessons}
 use Rattle.hurd_lessons.specs.Seen.{seen_text}
 use Rattle.hurd_lessons.specs.declared.tally.Tally.{Tally}
@@ -41,9 +42,9 @@ pub record Said : Type 0 where
   pub text : List ℕ
   pub shown : List ℕ
 
--- a paragraph for each part, with what is said and shown behind it; up to the first behind which nothing was said yet
-abbrev pub printed : List (List ℕ) → List Said → List ℕ
-printed (part ∷ parts) (said ∷ more) = paragraph part (said.text ++ said.shown) ++ printed parts more
+-- a paragraph for each answer, with what is said and shown after it; up to the first after which nothing was said yet
+abbrev pub printed : List Answer → List Said → List ℕ
+printed (answer ∷ answers) (said ∷ more) = paragraph answer (said.text ++ said.shown) ++ printed answers more
 printed _ _ = []
 
 -- one more, up to the greatest number that there is room for
@@ -61,7 +62,7 @@ tally_from t (said ∷ more) = tally_from (if said.counts then counted t said.te
 
 -- what stands behind the number of things that others did
 abbrev pub of_others : ℕ → List ℕ
-of_others n = if n == 1 then codes " of others\n" else codes "s of others\n"
+of_others n = if n == 1 then codes " by others\n" else codes "s by others\n"
 
 -- the last line: how many of the things that others did taught something, as ` command`
 abbrev pub last_line : List ℕ → List ℕ → Tally → List ℕ

@@ -25,9 +25,9 @@ fn of_others(number: u64) -> &'static [u8]
     ensures { result.now ≡ of_others number }
 {
     if number == 1 {
-        b" of others\n"
+        b" by others\n"
     } else {
-        b"s of others\n"
+        b"s by others\n"
     }
 }
 

@@ -10,16 +10,16 @@ use Rattle.hurd_lists.specs.declared.flaw.ListFlaw.TheVariants.{Length, Word, Ta
 -- a flaw in words
 abbrev pub flaw_text : ListFlaw → List ℕ
 flaw_text Length = codes "longer than 1048576 bytes"
-flaw_text Word = codes "words are of printable ASCII, with a backslash only before s, n, xHH or a backslash"
+flaw_text Word = codes "words are printable ASCII; a backslash must be followed by s, n, xHH or a backslash"
 flaw_text TaskForm = codes "a task line is: task UIDS GIDS"
-flaw_text LateTask = codes "tasks stand before the first call"
+flaw_text LateTask = codes "task lines must come before the first call"
 flaw_text TaskCount = codes "there are 64 tasks already"
 flaw_text TaskIds = codes "UIDS and GIDS are each at most 32 numbers below 4294967296 with commas between them, or -"
 flaw_text CallForm = codes "a call is: TASK CALL ARG.."
 flaw_text TaskNumber = codes "the line begins with no task's number"
 flaw_text OtherCall = codes "no such call"
-flaw_text Arguments = codes "other arguments than the call takes: their number, or the sort of one"
-flaw_text Server = codes "the words behind box make no server; each begins with ="
+flaw_text Arguments = codes "wrong number or type of arguments"
+flaw_text Server = codes "the words after box don't name a server; each starts with ="
 
 -- the line at which a list is bad, counted from 1, and why; line 0 where the list is too long
 pub record BadLine : Type 0 where

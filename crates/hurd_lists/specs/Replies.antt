@@ -5,6 +5,9 @@ use Rattle.hurd_creds.specs.Errors.{name_of}
 use Rattle.hurd_creds.specs.declared.attrs.Stat.{Stat}
 use Rattle.hurd_creds.specs.declared.open_flags.OpenFlags.{OpenFlags}
 use Rattle.hurd_words.specs.Escapes.{escaped}
+use Rattle.hurd_words.specs.declared.answers.Answer.{Answer}
+use Rattle.hurd_words.specs.declared.answers.Content.TheVariants.{Text}
+use Rattle.hurd_words.specs.declared.answers.Ending.TheVariants.{Done}
 use Rattle.hurd_words.specs.Printing.{octal_digit, six_octal_digits, spaced, text_if}
 use Rattle.hurd_machine.specs.declared.call.Lookup.{Lookup}
 use Rattle.hurd_machine.specs.declared.call.Lookup.TheVariants as lookup
@@ -101,6 +104,10 @@ reply_text (reply.Same false) = codes "Same false"
 reply_text (reply.Refused e) = codes "Refused " ++ name_of e
 reply_text (reply.Back e s) = codes "Back " ++ name_of e
 
--- a call's line, and on the next its reply, behind two spaces
-abbrev pub told : List ℕ → Reply → List ℕ
-told line r = line ++ codes "\n  " ++ reply_text r ++ 10 ∷ []
+-- a reply, on a line after two spaces
+abbrev pub reply_line : Reply → List ℕ
+reply_line r = codes "  " ++ reply_text r ++ 10 ∷ []
+
+-- what a call is answered: to its line, its reply. That is one line in which no bytes of users pass for anything else, a refusal too
+abbrev pub answered : List ℕ → Reply → Answer
+answered line r = record { line = line; content = Text (reply_line r); ending = Done }

@@ -40,18 +40,17 @@ impl ListFlaw {
         match self {
             ListFlaw::Length => "longer than 1048576 bytes",
             ListFlaw::Word =>
-                "words are of printable ASCII, with a backslash only before s, n, xHH or a backslash",
+                "words are printable ASCII; a backslash must be followed by s, n, xHH or a backslash",
             ListFlaw::TaskForm => "a task line is: task UIDS GIDS",
-            ListFlaw::LateTask => "tasks stand before the first call",
+            ListFlaw::LateTask => "task lines must come before the first call",
             ListFlaw::TaskCount => "there are 64 tasks already",
             ListFlaw::TaskIds =>
                 "UIDS and GIDS are each at most 32 numbers below 4294967296 with commas between them, or -",
             ListFlaw::CallForm => "a call is: TASK CALL ARG..",
             ListFlaw::TaskNumber => "the line begins with no task's number",
             ListFlaw::OtherCall => "no such call",
-            ListFlaw::Arguments =>
-                "other arguments than the call takes: their number, or the sort of one",
-            ListFlaw::Server => "the words behind box make no server; each begins with =",
+            ListFlaw::Arguments => "wrong number or type of arguments",
+            ListFlaw::Server => "the words after box don't name a server; each starts with =",
         }
     }
 }

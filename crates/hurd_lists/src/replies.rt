@@ -1,12 +1,13 @@
 //! The text of replies.
 ghost use Rattle.std.specs.Prelude.{◌≡◌, ◌++◌, ◌∷◌, [], if◌then◌else◌, List, ℕ, IfOk, OnOk};
 ghost use Rattle.hurd_machine.specs.Calls.{reply_by};
-ghost use Rattle.hurd_lists.specs.Replies.{flags_text, high_digit, high_digits, kind_name, listed_flags, lookup_text, port_text, reply_text, retry_name, shown, shown_names, mode_text, stat_rest, stat_text, told};
+ghost use Rattle.hurd_lists.specs.Replies.{flags_text, high_digit, high_digits, kind_name, listed_flags, lookup_text, port_text, reply_text, retry_name, shown, shown_names, mode_text, stat_rest, stat_text, answered};
 
 use bitflags::Flags;
 use hurd_creds::{Bytes, Kind, Mode, OpenFlags, Stat};
 use hurd_machine::{Lookup, Reply, RetryKind};
 use hurd_trans_iface::Server;
+use hurd_words::answers::{Answer, Content, Ending};
 use hurd_words::escapes::push_escaped;
 use hurd_words::printing::{octal_digit, push_if, push_mode, push_number};
 use std::alloc::{AllocError, Global};
@@ -250,13 +251,20 @@ fn push_reply<S: Server>(text: &mut Vec<u8>, reply: &Reply<S>) -> Result<(), All
     }
 }
 
-/// A call's line, and on the next its reply, behind two spaces. Of a box that comes back nothing is printed.
-pub fn told<S: Server>(alloc: Global, line: &[u8], reply: &Reply<S>) -> Result<Bytes, AllocError>
-    ensures { IfOk result (λ text. text ≡ told line.now (reply_by S.meaning reply.now)) }
+/// What a call is answered: to its line, its reply, on a line after two spaces. Of a box that comes back nothing is printed. Fails only if memory runs out.
+pub fn answered<S: Server>(
+    alloc: Global,
+    line: Bytes,
+    reply: &Reply<S>,
+) -> Result<Answer, AllocError>
+    ensures { IfOk result (λ answer. answer ≡ answered line (reply_by S.meaning reply.now)) }
 {
-    let mut text = Vec::from_slice(alloc, line)?;
-    text.extend_from_slice(b"\n  ")?;
+    let mut text = Vec::from_slice(alloc, b"  ")?;
     push_reply(&mut text, reply)?;
     text.push(b'\n')?;
-    Ok(Bytes::new(text))
+    Ok(Answer {
+        line,
+        content: Content::Text(Bytes::new(text)),
+        ending: Ending::Done,
+    })
 }

@@ -1,7 +1,7 @@
-//! For the page: reads a text from standard input, and says what some learn by it, or see at its end; or whether they can tell it from another.
+//! For the page: reads a text from standard input, and reports what some learn by it, or see at its end; or whether they can tell it from another.
 //!
-//! `hurd_page learns SORT WHO` does what `hurd learns WHO -` does, and `hurd_page see SORT WHO` what `hurd see WHO -` does, where SORT is `script` or `calls`.
-//! `hurd_page tell FIRST WHO` does what `hurd tell WHO ONE -` does, where FIRST is the text of ONE. The page has no files and no command line of its own, so
+//! `hurd_page learn SORT WHO` does what `hurd learn WHO -` does, and `hurd_page see SORT WHO` what `hurd see WHO -` does, where SORT is `script` or `calls`.
+//! `hurd_page compare FIRST WHO` does what `hurd compare WHO ONE -` does, where FIRST is the text of ONE. The page has no files and no command line of its own, so
 //! this program has no more words; with others it prints nothing, and ends with status 2. Statuses and lines on standard error are those of `hurd`.
 #![tactic(auto)]
 
@@ -32,13 +32,13 @@ fn request(verb: &str, sort: &str, who: String) -> Option<Request> {
         _ => return None,
     };
     match verb {
-        "learns" => Some(Request {
+        "learn" => Some(Request {
             sort,
-            verb: Verb::Learns { who },
+            verb: Verb::Learn { who },
         }),
         "see" => Some(Request {
             sort,
-            verb: Verb::Sees { who },
+            verb: Verb::See { who },
         }),
         _ => None,
     }
@@ -55,7 +55,7 @@ fn read_words(rt: &HostRuntime) -> Result<Option<Asked>, Fault> {
     let (Some(verb), Some(word), Some(who)) = (words.next(), words.next(), words.next()) else {
         return Ok(None);
     };
-    if verb.as_str() == "tell" {
+    if verb.as_str() == "compare" {
         return Ok(Some(Asked::Pair { first: word, who }));
     }
     match request(verb.as_str(), word.as_str(), who) {

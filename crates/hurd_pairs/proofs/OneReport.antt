@@ -14,7 +14,7 @@ use Rattle.hurd_machine.specs.Renamed.{OtherNames, task_renamed}
 use Rattle.hurd_looks.specs.Renamed.{IsRenamed, listed, named_row_renamed}
 use Rattle.hurd_pairs.specs.Differences.{Compares, FirstSaid, IsSaid, SaysSeen, SaysTold, SeeAlike, SeeOther}
 use Rattle.hurd_pairs.specs.Moments.{FirstOther, Moment, TellOther, TellSame}
-use Rattle.hurd_pairs.specs.Reports.{are_of, lines_in, moments_of, seen_text, told_text, verdict_of}
+use Rattle.hurd_pairs.specs.Reports.{get_of, lines_in, moments_of, seen_text, told_text, verdict_of}
 use Rattle.hurd_pairs.specs.Told.{ReportIsOne}
 use Rattle.hurd_pairs.specs.declared.difference.Compared.{Compared}
 use Rattle.hurd_pairs.specs.declared.difference.Difference.{Difference}
@@ -86,7 +86,7 @@ report_is_one word one two v w s t x y =
     let other : Compares (SeeAlike x.learners.tasks.items) (SeeOther x.learners.tasks.items) x.learners.tasks.items x.learners.sees.items
     (moments_of scripts (among x.learners.tasks.items) one) (moments_of scripts (among x.learners.tasks.items) two) y.compared = rw (same.tasks, same.sees) y.compares in
     let is = compared_once x.learners.tasks.items x.learners.sees.items (moments_of scripts (among x.learners.tasks.items) one) (moments_of scripts (among x.learners.tasks.items) two) x.compared y.compared x.compares other in
-    let text : List TaskId → List ℕ → List ℕ → Compared → List ℕ = λ tasks sees names c. seen_text sees (lines_in scripts one) (lines_in scripts two) c.seen ++ told_text (names ++ are_of tasks) (lines_in scripts one) (lines_in scripts two) c.told in (
+    let text : List TaskId → List ℕ → List ℕ → Compared → List ℕ = λ tasks sees names c. seen_text sees (lines_in scripts one) (lines_in scripts two) c.seen ++ told_text (names ++ get_of tasks) (lines_in scripts one) (lines_in scripts two) c.told in (
       x.judged ∙ (ap (λ (c : Compared). verdict_of c.told) is ∙ sym y.judged),
       x.is ∙ ((λ i. text (same.tasks i) (same.sees i) (same.names i) (is i)) ∙ sym y.is),
     )

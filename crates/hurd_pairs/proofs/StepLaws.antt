@@ -3,10 +3,11 @@ use Rattle.std.proofs.Common.{◌≡◌, ◌∙◌, ◌⊎◌, ◌<◌, inl, inr
 use Rattle.std.specs.Prelude.{◌&&◌, Option, is_some}
 use Rattle.hurd_creds.specs.declared.name.TaskId.{TaskId}
 use Rattle.hurd_sight.specs.Reach.{among}
+use Rattle.hurd_words.specs.declared.answers.Answer.{Answer}
 use Rattle.hurd_dialogue.specs.Parts.{Way}
 use Rattle.hurd_pairs.specs.Differences.{Compares, SaysSeen, SaysTold, SeeAlike, SeeOther}
 use Rattle.hurd_pairs.specs.Moments.{Moment, TellOther, TellSame, moments_left}
-use Rattle.hurd_pairs.specs.Steps.{HearsAt, Looks, StepsTo, text_told}
+use Rattle.hurd_pairs.specs.Steps.{HearsAt, Looks, StepsTo}
 use Rattle.hurd_pairs.specs.declared.difference.Compared.{Compared}
 use Rattle.hurd_pairs.specs.declared.difference.Difference.{Difference}
 use Rattle.hurd_pairs.proofs.OwnLaws.{PassesOne}
@@ -71,20 +72,20 @@ one_fails true false is = inr refl
 one_fails false b is = inl refl
 
 -- what some do next in each text was told, and compared
-pub step_to : (tasks : List TaskId) (sees : List ℕ) (one two one_mid two_mid one_then two_then : Way) (old : Compared) (part other : Option (List ℕ)) (seen told : Option Difference) (more : Bool)
+pub step_to : (tasks : List TaskId) (sees : List ℕ) (one two one_mid two_mid one_then two_then : Way) (old : Compared) (part other : Option Answer) (seen told : Option Difference) (more : Bool)
     → moments_left (among tasks) one_mid ≡ moments_left (among tasks) one → moments_left (among tasks) two_mid ≡ moments_left (among tasks) two
     → PassesOne (among tasks) one_mid one_then part → PassesOne (among tasks) two_mid two_then other
-    → ((s t : List ℕ) → Looks tasks sees (record { made = one_mid.told; world = one_mid.world; text = s }) (record { made = two_mid.told; world = two_mid.world; text = t }) old.seen seen)
-    → HearsAt one_mid.told two_mid.told (text_told part) (text_told other) old.told told → more ≡ (is_some part && is_some other)
+    → ((s t : Option Answer) → Looks tasks sees (record { made = one_mid.told; world = one_mid.world; answer = s }) (record { made = two_mid.told; world = two_mid.world; answer = t }) old.seen seen)
+    → HearsAt one_mid.told two_mid.told part other old.told told → more ≡ (is_some part && is_some other)
     → StepsTo tasks sees one two old more one_then two_then (record { seen = seen; told = told })
 step_to tasks sees one two one_mid two_mid one_then two_then old part other seen told more first second passes passed looks hears both = record {
-  m = record { made = one_mid.told; world = one_mid.world; text = text_told part };
-  n = record { made = two_mid.told; world = two_mid.world; text = text_told other };
+  m = record { made = one_mid.told; world = one_mid.world; answer = part };
+  n = record { made = two_mid.told; world = two_mid.world; answer = other };
   ms = passes.rest;
   ns = passed.rest;
   ones = sym first ∙ passes.is;
   twos = sym second ∙ passed.is;
-  looks = looks (text_told part) (text_told other);
+  looks = looks part other;
   hears = hears one_mid.world two_mid.world;
   goes = λ is.
       let some = both_hold (is_some part) (is_some other) (sym both ∙ is) in

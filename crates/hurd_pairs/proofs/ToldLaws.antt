@@ -1,4 +1,4 @@
--- Whoever is told something else saw something else before.
+-- Whoever gets a different reply saw something different before.
 use Rattle.std.proofs.Common.{◌≡◌, ◌≤◌, ◌∙◌, ◌+◌, inl, inr, refl, sym, ap, arith, ℕ, Bool, true, false, List, [], ◌∷◌, Option, Some, None}
 use Rattle.hurd_machine.specs.Sound.{Sound}
 use Rattle.hurd_machine.specs.World.{World}
@@ -33,9 +33,9 @@ module _ (S : ℕ → Bool) (make : Maker) where
 
   -- the moment of a command
   abbrev moment_of : ℕ → CommandLine → World → Moment
-  moment_of k c w = record { made = k; world = w; text = command_part make c w }
+  moment_of k c w = record { made = k; world = w; answer = Some (command_part make c w) }
 
-  pub no_command : (k : ℕ) (w : World) → moments_at k [] w ≡ record { made = k; world = w; text = [] } ∷ []
+  pub no_command : (k : ℕ) (w : World) → moments_at k [] w ≡ record { made = k; world = w; answer = None } ∷ []
   no_command k w = ap (moments S k w) (none_told make w) ∙ moments_end S k w
 
   pub own_first : (k : ℕ) (c : CommandLine) (cs : List CommandLine) (w : World) → S c.task ≡ true
@@ -104,7 +104,7 @@ module _ (tasks : List TaskId) (make : Maker) where
             let now = own_command_looks S looks.0 make v w c sv sw own looks.1 in
             elim (opened TellSame TellOther _ _ _ _ (Some (m, n)) (rw (first, second) at tells)) [
               | inl same ↦ rest (k + 1) (l + 1) x y (run_sound (command_calls make c v) v sv) (run_sound (command_calls make c w) w sw) seen m n alike.1 same.1
-              | inr other ↦ absurd (other.0 now.0)
+              | inr other ↦ absurd (other.0 (ap Some now.0))
             ]
         | inr other ↦
             let ends = found_among TellSame TellOther (λ (m : Moment). k ≤ m.made) (λ (n : Moment). l ≤ n.made) _ _ m n

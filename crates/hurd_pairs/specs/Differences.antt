@@ -3,6 +3,7 @@ use Rattle.std.specs.Prelude.{◌≡◌, ℕ, List, ◌++◌, Option, Some, None
 use Rattle.hurd_creds.specs.declared.name.TaskId.{TaskId}
 use Rattle.hurd_machine.specs.World.{World}
 use Rattle.hurd_words.specs.Marks.{marked}
+use Rattle.hurd_words.specs.declared.answers.Answer.{Answer}
 use Rattle.hurd_sight.specs.Reach.{among}
 use Rattle.hurd_views.specs.Views.{Views}
 use Rattle.hurd_views.specs.declared.view.View.{View}
@@ -25,15 +26,20 @@ pub record SaysSeen (tasks : List TaskId) (sees : List ℕ) (m n : Moment) (d : 
   pub two : d.two ≡ n.made
   pub said : Taught tasks sees m.world n.world d.said
 
--- two texts, one below the other
-abbrev pub both_texts : List ℕ → List ℕ → List ℕ
-both_texts s t = codes "the first: " ++ (marked s ++ (codes "the second: " ++ marked t))
+-- an answer with its marks, or that there is none
+abbrev pub marked_or_none : Option Answer → List ℕ
+marked_or_none None = codes "(nothing)\n"
+marked_or_none (Some answer) = marked answer
 
--- or what is told at each
+-- two answers, one below the other
+abbrev pub both_answers : Option Answer → Option Answer → List ℕ
+both_answers s t = codes "the first: " ++ (marked_or_none s ++ (codes "the second: " ++ marked_or_none t))
+
+-- or what is answered at each
 pub record SaysTold (m n : Moment) (d : Difference) : Type 0 where
   pub one : d.one ≡ m.made
   pub two : d.two ≡ n.made
-  pub said : d.said ≡ both_texts m.text n.text
+  pub said : d.said ≡ both_answers m.answer n.answer
 
 -- where something was found, that is said of it
 abbrev pub IsSaid : (Moment → Moment → Difference → Type 0) → Option (Moment × Moment) → Option Difference → Type 0

@@ -19,20 +19,25 @@ use Rattle.hurd_pairs.specs.declared.difference.Difference.{Difference}
 use Rattle.hurd_pairs.specs.declared.difference.PairFault.{PairFault}
 use Rattle.hurd_pairs.specs.declared.difference.PairFault.TheVariants.{First, Second, NoPair}
 use Rattle.hurd_pairs.specs.declared.difference.Verdict.{Verdict}
-use Rattle.hurd_pairs.specs.declared.difference.Verdict.TheVariants.{Same, Otherwise}
+use Rattle.hurd_pairs.specs.declared.difference.Verdict.TheVariants.{Same, Different}
 
 -- a place in a text: as `before line 7`, where there is such a line
 unfoldable pub place_text : List ℕ → Option ℕ → List ℕ
 place_text word None = codes " at the end"
 place_text word (Some line) = word ++ decimal line
 
+-- the word before a line of the second text: where a line of the first is named, it is not said again what it is to the place
+abbrev pub second_word : List ℕ → Option ℕ → List ℕ
+second_word word None = word
+second_word word (Some line) = codes " line "
+
 -- a place in each of two
 unfoldable pub places_text : List ℕ → Option ℕ → Option ℕ → List ℕ
-places_text word one two = place_text word one ++ (codes " of the first," ++ (place_text word two ++ codes " of the second"))
+places_text word one two = place_text word one ++ (codes " of the first script," ++ (place_text (second_word word one) two ++ codes " of the second"))
 
--- what stands behind the names of those who are told something
-abbrev pub are_of : List TaskId → List ℕ
-are_of tasks = if nat_lt 1 (length tasks) then codes " are" else codes " is"
+-- what follows the names of those who get a reply
+abbrev pub get_of : List TaskId → List ℕ
+get_of tasks = if nat_lt 1 (length tasks) then codes " get" else codes " gets"
 
 -- a difference, by the lines of the things that are done: the places, between a word and another text, and what is said of it
 unfoldable pub difference_text : List ℕ → List ℕ → (ℕ → Option ℕ) → (ℕ → Option ℕ) → Difference → List ℕ
@@ -41,16 +46,16 @@ difference_text word end one two d = places_text word (one d.one) (two d.two) ++
 -- where somebody whose sight is called so sees something else first
 abbrev pub seen_text : List ℕ → (ℕ → Option ℕ) → (ℕ → Option ℕ) → Option Difference → List ℕ
 seen_text sees one two None = sees ++ codes " the same\n"
-seen_text sees one two (Some d) = sees ++ (codes " otherwise" ++ difference_text (codes " before line ") (codes "; from the first to the second:\n") one two d)
+seen_text sees one two (Some d) = sees ++ (codes " a difference" ++ difference_text (codes " before line ") (codes "; first -> second:\n") one two d)
 
--- and where somebody of whom it is told so is told something else
+-- and where somebody first gets a different reply
 abbrev pub told_text : List ℕ → (ℕ → Option ℕ) → (ℕ → Option ℕ) → Option Difference → List ℕ
-told_text are one two None = are ++ codes " told the same\n"
-told_text are one two (Some d) = are ++ (codes " told otherwise" ++ difference_text (codes " at line ") (codes ":\n") one two d)
+told_text get one two None = get ++ codes " the same replies\n"
+told_text get one two (Some d) = get ++ (codes " a different reply" ++ difference_text (codes " at line ") (codes ":\n") one two d)
 
 -- both
 abbrev pub report_text : Learners → (ℕ → Option ℕ) → (ℕ → Option ℕ) → Compared → List ℕ
-report_text learners one two c = seen_text learners.sees.items one two c.seen ++ told_text (learners.names.items ++ are_of learners.tasks.items) one two c.told
+report_text learners one two c = seen_text learners.sees.items one two c.seen ++ told_text (learners.names.items ++ get_of learners.tasks.items) one two c.told
 
 -- the moments of a text
 abbrev pub moments_of : Sort → (ℕ → Bool) → List ℕ → List Moment
@@ -60,10 +65,10 @@ moments_of sort S text = moments S 0 (sort.world text) (sort.parts text)
 abbrev pub lines_in : Sort → List ℕ → ℕ → Option ℕ
 lines_in sort text made = line_before (sort.heading text) text made
 
--- whether they are told the same
+-- whether they get the same replies
 abbrev pub verdict_of : Option Difference → Verdict
 verdict_of None = Same
-verdict_of (Some d) = Otherwise
+verdict_of (Some d) = Different
 
 -- a report on two scripts that are a pair for those whom a word names: where they first see and are told something else, and whether they are told the same
 pub record Reports (word one two : List ℕ) (verdict : Verdict) (text : List ℕ) : Type 0 where

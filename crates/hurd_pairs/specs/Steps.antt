@@ -4,6 +4,7 @@ use Rattle.hurd_creds.specs.declared.name.TaskId.{TaskId}
 use Rattle.hurd_machine.specs.World.{World}
 use Rattle.hurd_sight.specs.Reach.{among}
 use Rattle.hurd_dialogue.specs.Parts.{Part, Way}
+use Rattle.hurd_words.specs.declared.answers.Answer.{Answer}
 use Rattle.hurd_lessons.specs.Told.{Taught}
 use Rattle.hurd_pairs.specs.Differences.{SaysSeen, SaysTold, SeeAlike, SeeOther}
 use Rattle.hurd_pairs.specs.Moments.{Moment, TellOther, TellSame, moments_left}
@@ -33,14 +34,9 @@ abbrev pub Hears : Moment → Moment → Option Difference → Option Difference
 Hears m n old new = KeepsOrFinds TellSame TellOther SaysTold m n old new
 
 -- the same where so many parts were told before, whatever the worlds
-abbrev pub HearsAt : ℕ → ℕ → List ℕ → List ℕ → Option Difference → Option Difference → Type 0
+abbrev pub HearsAt : ℕ → ℕ → Option Answer → Option Answer → Option Difference → Option Difference → Type 0
 HearsAt one two s t old new =
-    (v w : World) → Hears (record { made = one; world = v; text = s }) (record { made = two; world = w; text = t }) old new
-
--- the text of a part; of none, nothing
-abbrev pub text_told : Option (List ℕ) → List ℕ
-text_told None = []
-text_told (Some text) = text
+    (v w : World) → Hears (record { made = one; world = v; answer = s }) (record { made = two; world = w; answer = t }) old new
 
 -- the next moments of both were compared; what is left are those behind them, or none of one of the two
 pub record StepsTo (tasks : List TaskId) (sees : List ℕ) (one two : Way) (old : Compared) (more : Bool) (one_then two_then : Way) (new : Compared) : Type 0 where

@@ -1,10 +1,10 @@
--- Whoever is told something else saw something else before.
+-- Whoever gets a different reply saw something different before.
 use Rattle.std.specs.Prelude.{◌≡◌, ◌≤◌, ℕ, List, Some}
 use Rattle.hurd_pairs.specs.Reports.{Reports}
 use Rattle.hurd_pairs.specs.declared.difference.Difference.{Difference}
 use Rattle.hurd_pairs.specs.declared.difference.Verdict.{Verdict}
 
--- where a report on two scripts says that something else is told, it says that something else was seen, and not behind that
+-- if a report on two scripts names a different reply, it names a different view at that place or before it
 abbrev pub ToldBySeen : Type 0
 ToldBySeen =
     (word one two : List ℕ) (verdict : Verdict) (text : List ℕ) (report : Reports word one two verdict text) (told : Difference) → report.compared.told ≡ Some told

@@ -1,19 +1,21 @@
 //! Two texts on their way, compared whenever some tasks do something.
-ghost use Rattle.std.specs.Prelude.{◌≡◌, ◌&&◌, IfOk, OnOk, List, ℕ, is_some};
+ghost use Rattle.std.specs.Prelude.{◌≡◌, ◌++◌, ◌&&◌, IfOk, OnOk, Option, is_some};
 ghost use Rattle.hurd_sight.specs.Reach.{among};
+ghost use Rattle.hurd_words.specs.declared.answers.Answer.{Answer};
 ghost use Rattle.hurd_world.specs.Held.{world_of};
-ghost use Rattle.hurd_pairs.specs.Differences.{Compares, SeeAlike, SeeOther, both_texts};
+ghost use Rattle.hurd_pairs.specs.Differences.{Compares, SeeAlike, SeeOther, both_answers, marked_or_none};
 ghost use Rattle.hurd_pairs.specs.Moments.{moments_left};
-ghost use Rattle.hurd_pairs.specs.Steps.{HearsAt, IsSeenSo, Looks, StepsTo, text_told};
+ghost use Rattle.hurd_pairs.specs.Steps.{HearsAt, IsSeenSo, Looks, StepsTo};
 
 use crate::difference::{Compared, Difference};
 use crate::own::reach_own;
-use hurd_creds::Bytes;
+use hurd_creds::{Bytes, Same};
 use hurd_dialogue::Telling;
 use hurd_lessons::lessons;
 use hurd_looks::look_alike;
 use hurd_teaching::{Learners, view_of};
 use hurd_trans_iface::Server;
+use hurd_words::answers::Answer;
 use hurd_words::marks::push_marked;
 use hurd_world::World;
 use std::alloc::{AllocError, Global};
@@ -45,8 +47,8 @@ fn look<T: Telling>(
     learners: &Learners,
     seen: &mut Option<Difference>,
 ) -> Result<(), AllocError>
-    ensures { OnOk result ((s t : List ℕ) → Looks learners.now.tasks.items learners.now.sees.items
-        (record { made = (T.way one.now).told; world = (T.way one.now).world; text = s }) (record { made = (T.way two.now).told; world = (T.way two.now).world; text = t })
+    ensures { OnOk result ((s t : Option Answer) → Looks learners.now.tasks.items learners.now.sees.items
+        (record { made = (T.way one.now).told; world = (T.way one.now).world; answer = s }) (record { made = (T.way two.now).told; world = (T.way two.now).world; answer = t })
         seen.old seen.new) }
 {
     if seen.is_some() {
@@ -62,23 +64,37 @@ fn look<T: Telling>(
     Ok(())
 }
 
-/// Two texts, one below the other. An error is want of memory.
-fn both_texts(alloc: Global, one: &[u8], two: &[u8]) -> Result<Bytes, AllocError>
-    ensures { IfOk result (λ text. text ≡ both_texts one.now two.now) }
+/// Adds an answer with its marks, or that there is none.
+fn push_answer(text: &mut Vec<u8>, answer: &Option<Answer>) -> Result<(), AllocError>
+    ensures { OnOk result (text.new.items ≡ text.old.items ++ marked_or_none answer.now) }
+{
+    match answer {
+        Some(answer) => push_marked(text, answer),
+        None => text.extend_from_slice(b"(nothing)\n"),
+    }
+}
+
+/// Two answers, one below the other. Fails only if memory runs out.
+fn both_answers(
+    alloc: Global,
+    one: &Option<Answer>,
+    two: &Option<Answer>,
+) -> Result<Bytes, AllocError>
+    ensures { IfOk result (λ text. text ≡ both_answers one.now two.now) }
 {
     let mut text = Vec::from_slice(alloc, b"the first: ")?;
-    push_marked(&mut text, one)?;
+    push_answer(&mut text, one)?;
     text.extend_from_slice(b"the second: ")?;
-    push_marked(&mut text, two)?;
+    push_answer(&mut text, two)?;
     Ok(Bytes::new(text))
 }
 
-/// Compares what is told in two texts, where so many parts were told before in each, unless something else was told before. An error is want of memory.
+/// Compares what is answered in two texts, after so many parts in each, unless a different answer was found before. Fails only if memory runs out.
 fn hear(
     alloc: Global,
     made: (usize, usize),
-    one: &[u8],
-    two: &[u8],
+    one: &Option<Answer>,
+    two: &Option<Answer>,
     told: &mut Option<Difference>,
 ) -> Result<(), AllocError>
     ensures { OnOk result (HearsAt made.0 made.1 one.now two.now told.old told.new) }
@@ -86,10 +102,10 @@ fn hear(
     if told.is_some() {
         return Ok(());
     }
-    if one == two {
+    if one.same(two) {
         return Ok(());
     }
-    let said = both_texts(alloc, one, two)?;
+    let said = both_answers(alloc, one, two)?;
     *told = Some(Difference {
         one: made.0,
         two: made.1,
@@ -98,18 +114,8 @@ fn hear(
     Ok(())
 }
 
-/// The text of a part; of none, nothing.
-fn text_told(part: &Option<Bytes>) -> &[u8]
-    ensures { result.now ≡ text_told part.now }
-{
-    match part {
-        Some(part) => part.as_slice(),
-        None => &[],
-    }
-}
-
-/// Whether there are two parts.
-fn are_both(part: &Option<Bytes>, other: &Option<Bytes>) -> bool
+/// Whether there are two answers.
+fn are_both(part: &Option<Answer>, other: &Option<Answer>) -> bool
     ensures { result ≡ (is_some part.now && is_some other.now) }
 {
     part.is_some() && other.is_some()
@@ -133,13 +139,7 @@ fn step<T: Telling>(
     let made = (one.told(), two.told());
     let part = one.next(alloc)?;
     let other = two.next(alloc)?;
-    hear(
-        alloc,
-        made,
-        text_told(&part),
-        text_told(&other),
-        &mut compared.told,
-    )?;
+    hear(alloc, made, &part, &other, &mut compared.told)?;
     Ok(are_both(&part, &other))
 }
 

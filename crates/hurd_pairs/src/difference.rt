@@ -16,17 +16,17 @@ pub struct Difference {
 /// What came of comparing two texts.
 #[derive(Debug, Drop)]
 pub struct Compared {
-    /// Where something else is seen first.
+    /// Where something different is seen first.
     pub seen: Option<Difference>,
-    /// Where something else is told first.
+    /// Where a different reply comes first.
     pub told: Option<Difference>,
 }
 
-/// Whether some users are told the same by two scripts.
+/// Whether some users get the same replies in two scripts.
 #[derive(Clone, Copy, Debug, PartialEq, Eq)]
 pub enum Verdict {
     Same,
-    Otherwise,
+    Different,
 }
 
 /// Why two scripts are no pair for some users.

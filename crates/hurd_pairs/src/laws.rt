@@ -1,8 +1,8 @@
-//! What it means that some users are told something else.
+//! What it means that some users get a different reply.
 ghost use Rattle.hurd_pairs.specs.Told.{ReportIsOne, ToldBySeen};
 
-/// A law: whoever is told something else in the second of two scripts saw something else before that, or at that moment.
-pub fn whoever_is_told_otherwise_saw_otherwise()
+/// A law: whoever gets a different reply in the second of two scripts saw something different before that, or at that moment.
+pub fn different_reply_implies_different_view()
     ensures { ToldBySeen }
 {}
 

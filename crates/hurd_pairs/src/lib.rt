@@ -1,8 +1,8 @@
 //! Two scripts side by side: whether some users can tell them apart, and where.
 //!
-//! `tell_scripts` runs both, and compares what some users see whenever they are to do something, and what they are told. A pair of scripts has the
+//! `compare_scripts` runs both, and compares what some users see whenever they are to do something, and the replies that they get. A pair of scripts has the
 //! same users, and these users' commands are the same in both: so what differs is what the others do.
-//! The law `whoever_is_told_otherwise_saw_otherwise` says what that is worth.
+//! The law `different_reply_implies_different_view` says what that is worth.
 #![tactic(auto)]
 
 mod comparing;
@@ -15,6 +15,6 @@ mod reports;
 mod scripts;
 
 pub use difference::{Compared, Difference, Mismatch, PairFault, Verdict};
-pub use laws::{one_report_is_printed, whoever_is_told_otherwise_saw_otherwise};
+pub use laws::{different_reply_implies_different_view, one_report_is_printed};
 pub use lines::line_in_script;
-pub use scripts::tell_scripts;
+pub use scripts::compare_scripts;

@@ -1,7 +1,7 @@
 //! What is printed of two scripts.
 ghost use Rattle.std.specs.Prelude.{◌≡◌, ◌++◌, IfOk, OnOk, codes};
 ghost use Rattle.hurd_pairs.specs.Lines.{line_before};
-ghost use Rattle.hurd_pairs.specs.Reports.{are_of, difference_text, place_text, places_text, report_text, seen_text, told_text, verdict_of};
+ghost use Rattle.hurd_pairs.specs.Reports.{get_of, difference_text, place_text, places_text, report_text, second_word, seen_text, told_text, verdict_of};
 
 use crate::difference::{Compared, Difference, Verdict};
 use crate::lines::line_before;
@@ -31,6 +31,16 @@ fn push_place(text: &mut Vec<u8>, word: &str, line: Option<usize>) -> Result<(),
     }
 }
 
+/// The word before a line of the second text: where a line of the first is named, it is not said again what it is to the place.
+fn second_word(word: &str, one: Option<usize>) -> &str
+    ensures { result.now ≡ second_word word.now one }
+{
+    match one {
+        Some(_) => " line ",
+        None => word,
+    }
+}
+
 /// Adds a place in each of two texts.
 #[tactic(auto, unfolding(crate::specs::Reports::places_text))]
 fn push_places(
@@ -42,8 +52,8 @@ fn push_places(
     ensures { OnOk result (text.new.items ≡ text.old.items ++ places_text word.now one two) }
 {
     push_place(text, word, one)?;
-    text.extend_from_slice(b" of the first,")?;
-    push_place(text, word, two)?;
+    text.extend_from_slice(b" of the first script,")?;
+    push_place(text, second_word(word, one), two)?;
     text.extend_from_slice(b" of the second")?;
     Ok(())
 }
@@ -68,7 +78,7 @@ fn push_difference(
     text.extend_from_slice(difference.said.as_slice())
 }
 
-/// Adds what some see otherwise first.
+/// Adds where some first see a difference.
 fn push_seen(
     alloc: Global,
     text: &mut Vec<u8>,
@@ -82,12 +92,12 @@ fn push_seen(
     text.extend_from_slice(learners.sees.as_slice())?;
     match seen {
         Some(seen) => {
-            text.extend_from_slice(b" otherwise")?;
+            text.extend_from_slice(b" a difference")?;
             push_difference(
                 alloc,
                 text,
                 " before line ",
-                "; from the first to the second:\n",
+                "; first -> second:\n",
                 one,
                 two,
                 seen,
@@ -97,14 +107,14 @@ fn push_seen(
     }
 }
 
-/// What stands behind the names of those who are told something.
-fn are(tasks: &[TaskId]) -> &'static [u8]
-    ensures { result.now ≡ are_of tasks.now }
+/// What follows the names of those who get a reply.
+fn get(tasks: &[TaskId]) -> &'static [u8]
+    ensures { result.now ≡ get_of tasks.now }
 {
-    if tasks.len() > 1 { b" are" } else { b" is" }
+    if tasks.len() > 1 { b" get" } else { b" gets" }
 }
 
-/// Adds what some are told otherwise first.
+/// Adds where some first get a different reply.
 fn push_told(
     alloc: Global,
     text: &mut Vec<u8>,
@@ -113,17 +123,17 @@ fn push_told(
     two: &Lined<'_>,
     told: &Option<Difference>,
 ) -> Result<(), AllocError>
-    ensures { OnOk result (text.new.items ≡ text.old.items ++ told_text (learners.now.names.items ++ are_of learners.now.tasks.items)
+    ensures { OnOk result (text.new.items ≡ text.old.items ++ told_text (learners.now.names.items ++ get_of learners.now.tasks.items)
         (line_before one.now.heading one.now.text.now) (line_before two.now.heading two.now.text.now) told.now) }
 {
     text.extend_from_slice(learners.names.as_slice())?;
-    text.extend_from_slice(are(learners.tasks.as_slice()))?;
+    text.extend_from_slice(get(learners.tasks.as_slice()))?;
     match told {
         Some(told) => {
-            text.extend_from_slice(b" told otherwise")?;
+            text.extend_from_slice(b" a different reply")?;
             push_difference(alloc, text, " at line ", ":\n", one, two, told)
         }
-        None => text.extend_from_slice(b" told the same\n"),
+        None => text.extend_from_slice(b" the same replies\n"),
     }
 }
 
@@ -143,12 +153,12 @@ pub(crate) fn report(
     Ok(text)
 }
 
-/// Whether some are told the same.
+/// Whether some get the same replies.
 pub(crate) fn verdict(compared: &Compared) -> Verdict
     ensures { result ≡ verdict_of compared.now.told }
 {
     match compared.told {
-        Some(_) => Verdict::Otherwise,
+        Some(_) => Verdict::Different,
         None => Verdict::Same,
     }
 }

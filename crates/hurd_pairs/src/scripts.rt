@@ -33,10 +33,10 @@ fn fit<T: Telling>(alloc: Global, word: &str, text: &[u8]) -> Result<(Box<T>, Le
     }
 }
 
-/// Compares two texts on their way, and prints the report; tells whether those are told the same.
+/// Compares two texts on their way, and prints the report; returns whether those get the same replies.
 ///
 /// `Write` where it can't be written: then only some first bytes of it were printed; `Memory`: then nothing was.
-fn tell_fit<T: Telling, W: Write>(
+fn compare_fit<T: Telling, W: Write>(
     alloc: Global,
     one: &[u8],
     two: &[u8],
@@ -61,12 +61,12 @@ fn tell_fit<T: Telling, W: Write>(
     Ok(verdict(&compared))
 }
 
-/// Runs two scripts side by side, and prints where those whom a word names first see something else in the second, and where they are first told
-/// something else; tells whether they are told the same.
+/// Runs two scripts side by side, and prints where those whom a word names first see something different in the second, and where they first get a
+/// different reply; returns whether they get the same replies.
 ///
 /// Errors, in order, of the first and then of the second script: `Bad` with the line at which it is bad, `Boot` with its world's refusal, `Unknown` where
 /// somebody is named who isn't in it. Then `NoPair`. Nothing is printed then, nor where there is no memory. `Write`: then a front is.
-pub fn tell_scripts<W: Write>(
+pub fn compare_scripts<W: Write>(
     alloc: Global,
     word: &str,
     one: &[u8],
@@ -87,7 +87,7 @@ pub fn tell_scripts<W: Write>(
     if let Some(why) = mismatch(alloc, one, two, &learners)? {
         return Err(PairFault::NoPair(why));
     }
-    match tell_fit(
+    match compare_fit(
         alloc,
         one,
         two,

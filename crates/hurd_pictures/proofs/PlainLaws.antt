@@ -58,8 +58,9 @@ byte_plain b below =
     if_plain (b == 60) _ _ refl (λ n60.
     if_plain (b == 62) _ _ refl (λ n62.
     if_plain (b == 34) _ _ refl (λ n34.
+    if_plain (b == 93) _ _ refl (λ _.
     if_plain (b == 92) _ _ refl (λ _.
-    if_plain (b == 32) _ _ refl (λ _. escaped_plain b below n60 n62 n34))))))
+    if_plain (b == 32) _ _ refl (λ _. escaped_plain b below n60 n62 n34)))))))
 
 label_plain : (bs : List ℕ) → list_all (λ b. nat_lt b 256) bs ≡ true → list_all is_plain (label bs) ≡ true
 label_plain [] e = refl

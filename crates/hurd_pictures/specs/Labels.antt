@@ -12,6 +12,7 @@ label_byte b =
     else if b == 60 then codes "&lt;"
     else if b == 62 then codes "&gt;"
     else if b == 34 then codes "&quot;"
+    else if b == 93 then codes "&#93;"
     else if b == 92 then codes "\\\\\\\\"
     else if b == 32 then codes " "
     else escaped_byte b

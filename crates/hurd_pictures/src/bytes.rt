@@ -23,7 +23,8 @@ fn push_by_escape(text: &mut Vec<u8>, byte: u8) -> Result<(), AllocError>
     push_escaped(text, &[byte])
 }
 
-/// Adds a byte as it stands in a label. Graphviz reads two backslashes there as one, and `\N` as the name of the node.
+/// Adds a byte as it stands in a label. Graphviz reads two backslashes there as one, `\N` as the name of the node, and `]` as the
+/// end of what can't be marked up.
 fn push_byte(text: &mut Vec<u8>, byte: u8) -> Result<(), AllocError>
     ensures { OnOk result (text.new.items ≡ text.old.items ++ label_byte byte) }
 {
@@ -32,6 +33,7 @@ fn push_byte(text: &mut Vec<u8>, byte: u8) -> Result<(), AllocError>
         b'<' => push_text(text, b"&lt;"),
         b'>' => push_text(text, b"&gt;"),
         b'"' => push_text(text, b"&quot;"),
+        b']' => push_text(text, b"&#93;"),
         b'\\' => push_text(text, b"\\\\\\\\"),
         b' ' => push_text(text, b" "),
         _ => push_by_escape(text, byte),

@@ -6,10 +6,10 @@ use Rattle.hurd_sight.specs.Found.{found_from, why_of}
 use Rattle.hurd_sight.specs.declared.found.Why.{Why}
 use Rattle.hurd_sight.specs.declared.found.Why.TheVariants as why
 use Rattle.hurd_views.specs.declared.view.View.{View}
-use Rattle.hurd_places.specs.Places.{beneath, is_covered, level_along, level_by, covered_path, or_root, path_along, step_by}
+use Rattle.hurd_places.specs.Places.{underlying, is_covered, level_along, level_by, covered_path, or_root, path_along, step_by}
 use Rattle.hurd_words.proofs.Bytes.{first_same}
 use Rattle.hurd_places.proofs.PlaceLaws.{level_most}
-use Rattle.hurd_places.proofs.StepLaws.{IsLast, OfActive, OfRoot, OfStem, Sort, beneath_kind, beneath_last, beneath_once, cut_same, front, is_last, is_stem, kind, kind_small, last, last_kind, not_slash, one_why, sort, split, stem_level, tag}
+use Rattle.hurd_places.proofs.StepLaws.{IsLast, OfActive, OfRoot, OfStem, Sort, underlying_kind, underlying_last, underlying_once, cut_same, front, is_last, is_stem, kind, kind_small, last, last_kind, not_slash, one_why, sort, split, stem_level, tag}
 
 -- a way on which a node was found, of such steps
 abbrev pub IsWay : View → Name → List Name → Type 0
@@ -170,10 +170,10 @@ root_once (c ∷ p) (d ∷ q) a b is = is
 
 -- a mark is no other step
 
-covered_apart : (p q : List ℕ) (k : ℕ) → (q ≡ []) ⊎ Ends q → or_root p ++ beneath k ≡ q → ⊥
-covered_apart p q k (inl none) is = some_step (or_root p) (beneath k) (beneath_last k) (is ∙ none)
+covered_apart : (p q : List ℕ) (k : ℕ) → (q ≡ []) ⊎ Ends q → or_root p ++ underlying k ≡ q → ⊥
+covered_apart p q k (inl none) is = some_step (or_root p) (underlying k) (underlying_last k) (is ∙ none)
 covered_apart p q k (inr e) is =
-    let both = cut_same (or_root p) e.before (beneath k) e.step (beneath_last k) e.last (is ∙ e.is) in e.kind (sym (ap tag both.1) ∙ beneath_kind k)
+    let both = cut_same (or_root p) e.before (underlying k) e.step (underlying_last k) e.last (is ∙ e.is) in e.kind (sym (ap tag both.1) ∙ underlying_kind k)
 
 -- paths that go on from nodes
 
@@ -211,10 +211,10 @@ full_once v k n m ns ms apart short small shorter few way_n way_m is = go (is_co
     go : (s t : Bool) → is_covered v n ≡ s → is_covered v m ≡ t
         → covered_path s (path_along v (n ∷ ns)) (level_along v (n ∷ ns)) ≡ covered_path t (path_along v (m ∷ ms)) (level_along v (m ∷ ms)) → n ≡ m
     go true true p q same =
-        let both = cut_same (or_root (path_along v (n ∷ ns))) (or_root (path_along v (m ∷ ms))) (beneath (level_along v (n ∷ ns))) (beneath (level_along v (m ∷ ms)))
-        (beneath_last (level_along v (n ∷ ns))) (beneath_last (level_along v (m ∷ ms))) same in
+        let both = cut_same (or_root (path_along v (n ∷ ns))) (or_root (path_along v (m ∷ ms))) (underlying (level_along v (n ∷ ns))) (underlying (level_along v (m ∷ ms)))
+        (underlying_last (level_along v (n ∷ ns))) (underlying_last (level_along v (m ∷ ms))) same in
         short n m ns ms shorter few way_n way_m (root_once (path_along v (n ∷ ns)) (path_along v (m ∷ ms)) (no_slash (path_along v (n ∷ ns)) ends_n) (no_slash (path_along v (m ∷ ms)) ends_m) both.0)
-        (beneath_once (level_along v (n ∷ ns)) (level_along v (m ∷ ms)) few_n few_m both.1)
+        (underlying_once (level_along v (n ∷ ns)) (level_along v (m ∷ ms)) few_n few_m both.1)
     go true false p q same = absurd (covered_apart (path_along v (n ∷ ns)) (path_along v (m ∷ ms)) (level_along v (n ∷ ns)) ends_m same)
     go false true p q same = absurd (covered_apart (path_along v (m ∷ ms)) (path_along v (n ∷ ns)) (level_along v (m ∷ ms)) ends_n (sym same))
     go false false p q same =
@@ -294,6 +294,6 @@ ways_once v n m ns ms apart few_n few_m way_n way_m is =
     no_full : (x : Name) (xs : List Name) → IsWay v x xs → (t : Bool) → covered_path t (path_along v (x ∷ xs)) (level_along v (x ∷ xs)) ≡ 47 ∷ [] → ⊥
     no_full x xs way false same = no_slash (path_along v (x ∷ xs)) (ends v x xs way) same
     no_full x xs way true same =
-        let alone = slash_alone (or_root (path_along v (x ∷ xs))) (beneath (level_along v (x ∷ xs))) (beneath_last (level_along v (x ∷ xs))) same in
-        let nine = sym (beneath_kind (level_along v (x ∷ xs))) ∙ ap tag alone in
+        let alone = slash_alone (or_root (path_along v (x ∷ xs))) (underlying (level_along v (x ∷ xs))) (underlying_last (level_along v (x ∷ xs))) same in
+        let nine = sym (underlying_kind (level_along v (x ∷ xs))) ∙ ap tag alone in
         omega (arith, nine)

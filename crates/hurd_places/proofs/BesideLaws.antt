@@ -12,11 +12,11 @@ use Rattle.hurd_sight.specs.declared.found.Why.{Why}
 use Rattle.hurd_sight.specs.declared.found.Why.TheVariants as why
 use Rattle.hurd_views.specs.Views.{row_at}
 use Rattle.hurd_views.specs.declared.view.View.{View}
-use Rattle.hurd_places.specs.Places.{beneath, beside, count_to, is_covered, label_of, label_or, level_along, covered_path, name_in, names_tasks, node_path, node_place, numbered, or_root, path_along, step_by, target_at, way_of}
+use Rattle.hurd_places.specs.Places.{underlying, beside, count_to, is_covered, label_of, label_or, level_along, covered_path, name_in, names_tasks, node_path, node_place, numbered, or_root, path_along, step_by, target_at, way_of}
 use Rattle.hurd_places.specs.declared.labels.Wanted.TheVariants as wanted
 use Rattle.hurd_places.proofs.CutLaws.{is_cut, is_inner, is_whole}
 use Rattle.hurd_places.proofs.EachBeside.{each_beside}
-use Rattle.hurd_places.proofs.StepLaws.{IsLast, beneath_last, child_front, child_last, front, is_last, is_stem, last, split}
+use Rattle.hurd_places.proofs.StepLaws.{IsLast, underlying_last, child_front, child_last, front, is_last, is_stem, last, split}
 
 -- whether a text begins with a bracket; whether no bracket stands behind a space; and whether no space stands last
 
@@ -143,16 +143,16 @@ root_clean : (p : List ℕ) → Clean p → Clean (or_root p)
 root_clean [] c = record { apart = refl; closed = refl; heads = refl }
 root_clean (b ∷ p) c = c
 
-beneath_clean : (k : ℕ) → Clean (beneath k)
-beneath_clean k = last_clean (beneath k) (beneath_last k) (go (k == 0))
+underlying_clean : (k : ℕ) → Clean (underlying k)
+underlying_clean k = last_clean (underlying k) (underlying_last k) (go (k == 0))
   where
-    go : (t : Bool) → closed (if t then codes "(beneath)" else numbered (codes "beneath") k) ≡ true
+    go : (t : Bool) → closed (if t then codes "(underlying)" else numbered (codes "underlying") k) ≡ true
     go true = refl
-    go false = numbered_closed (codes "beneath") k
+    go false = numbered_closed (codes "underlying") k
 
 covered_clean : (t : Bool) (p : List ℕ) (k : ℕ) → Clean p → Clean (covered_path t p k)
 covered_clean false p k c = c
-covered_clean true p k c = clean_both (or_root p) (beneath k) (root_clean p c) (beneath_clean k)
+covered_clean true p k c = clean_both (or_root p) (underlying k) (root_clean p c) (underlying_clean k)
 
 nothing : Clean []
 nothing = record { apart = refl; closed = refl; heads = refl }

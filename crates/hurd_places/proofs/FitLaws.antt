@@ -11,7 +11,7 @@ use Rattle.hurd_sight.specs.declared.found.Why.TheVariants as why
 use Rattle.hurd_views.specs.Views.{row_at}
 use Rattle.hurd_views.specs.declared.rows.Row.{Row}
 use Rattle.hurd_views.specs.declared.view.View.{View}
-use Rattle.hurd_places.specs.Places.{beneath, beside, count_to, holder_word, is_covered, label_of, label_or, label_text, level_along, covered_path, name_in, name_text, names_tasks, node_path, node_place, numbered, open_place, or_root, path_along, place_by, server_at, server_node, server_path, step_by, target_at, way_of}
+use Rattle.hurd_places.specs.Places.{underlying, beside, count_to, holder_word, is_covered, label_of, label_or, label_text, level_along, covered_path, name_in, name_text, names_tasks, node_path, node_place, numbered, open_place, or_root, path_along, place_by, server_at, server_node, server_path, step_by, target_at, way_of}
 use Rattle.hurd_places.specs.declared.labels.Holder.{Holder}
 use Rattle.hurd_places.specs.declared.labels.Holder.TheVariants as holder
 use Rattle.hurd_places.specs.declared.labels.Label.{Label}
@@ -64,16 +64,16 @@ beside_fits v n = each_beside (λ (s : List ℕ). fits s ≡ true) (record {
 
 -- paths
 
-beneath_fits : (k : ℕ) → fits (beneath k) ≡ true
-beneath_fits k = go (k == 0)
+underlying_fits : (k : ℕ) → fits (underlying k) ≡ true
+underlying_fits k = go (k == 0)
   where
-    go : (t : Bool) → fits (if t then codes "(beneath)" else numbered (codes "beneath") k) ≡ true
+    go : (t : Bool) → fits (if t then codes "(underlying)" else numbered (codes "underlying") k) ≡ true
     go true = refl
-    go false = numbered_fits (codes "beneath") k refl
+    go false = numbered_fits (codes "underlying") k refl
 
 covered_fits : (covered : Bool) (path : List ℕ) (k : ℕ) → fits path ≡ true → fits (covered_path covered path k) ≡ true
 covered_fits false path k fit = fit
-covered_fits true path k fit = both_fit (or_root path) (beneath k) (root_fits path fit) (beneath_fits k)
+covered_fits true path k fit = both_fit (or_root path) (underlying k) (root_fits path fit) (underlying_fits k)
 
 step_fits : (v : View) (n : Name) (path : List ℕ) (k : ℕ) (y : Option Why) → fits path ≡ true → fits (step_by v n path k y) ≡ true
 step_fits v n path k None fit = refl

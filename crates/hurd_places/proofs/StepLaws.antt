@@ -13,7 +13,7 @@ use Rattle.hurd_sight.specs.declared.found.Why.{Why}
 use Rattle.hurd_sight.specs.declared.found.Why.TheVariants as why
 use Rattle.hurd_views.specs.Views.{row_at}
 use Rattle.hurd_views.specs.declared.view.View.{View}
-use Rattle.hurd_places.specs.Places.{beneath, count_to, holder_word, is_covered, label_of, label_or, level_by, covered_path, name_in, name_text, names_tasks, numbered, step_by, target_at}
+use Rattle.hurd_places.specs.Places.{underlying, count_to, holder_word, is_covered, label_of, label_or, level_by, covered_path, name_in, name_text, names_tasks, numbered, step_by, target_at}
 use Rattle.hurd_places.specs.declared.labels.Holder.{Holder}
 use Rattle.hurd_places.specs.declared.labels.Holder.TheVariants as holder
 use Rattle.hurd_places.specs.declared.labels.Label.{Label}
@@ -139,7 +139,7 @@ is_last v n (why.Target d) is = numbered_last (codes "target") (target_at v d n)
 
 abbrev pub inner_tag : ℕ → ℕ → ℕ → ℕ
 inner_tag a b c =
-    if a == 117 then 1
+    if a == 117 then (if c == 100 then 9 else 1)
     else if a == 112 then (if b == 97 then 2 else if b == 101 then 3 else 4)
     else if a == 114 then 5
     else if a == 116 then (if c == 114 then 6 else 4)
@@ -239,27 +239,27 @@ numbered_once word a b small few is =
     let digits = append_cancel_right (spaced a) (spaced b) (41 ∷ []) rest in
     decimal_injective a b small few (first_same 32 32 (decimal a) (decimal b) digits).1
 
--- what is beneath an active server
+-- what is underlying an active server
 
-pub beneath_last : (k : ℕ) → IsLast (beneath k)
-beneath_last k = go (k == 0)
+pub underlying_last : (k : ℕ) → IsLast (underlying k)
+underlying_last k = go (k == 0)
   where
-    go : (t : Bool) → IsLast (if t then codes "(beneath)" else numbered (codes "beneath") k)
-    go true = record { first = 40; rest = codes "beneath)"; is = refl; cuts = refl; whole = refl }
-    go false = numbered_last (codes "beneath") k refl
+    go : (t : Bool) → IsLast (if t then codes "(underlying)" else numbered (codes "underlying") k)
+    go true = record { first = 40; rest = codes "underlying)"; is = refl; cuts = refl; whole = refl }
+    go false = numbered_last (codes "underlying") k refl
 
-pub beneath_kind : (k : ℕ) → tag (beneath k) ≡ 9
-beneath_kind k = go (k == 0)
+pub underlying_kind : (k : ℕ) → tag (underlying k) ≡ 9
+underlying_kind k = go (k == 0)
   where
-    go : (t : Bool) → tag (if t then codes "(beneath)" else numbered (codes "beneath") k) ≡ 9
+    go : (t : Bool) → tag (if t then codes "(underlying)" else numbered (codes "underlying") k) ≡ 9
     go true = refl
     go false = refl
 
-pub beneath_once : (a b : ℕ) → a < 2 ^ 64 → b < 2 ^ 64 → beneath a ≡ beneath b → a ≡ b
-beneath_once a b small few is = go (a == 0) (b == 0) refl refl is
+pub underlying_once : (a b : ℕ) → a < 2 ^ 64 → b < 2 ^ 64 → underlying a ≡ underlying b → a ≡ b
+underlying_once a b small few is = go (a == 0) (b == 0) refl refl is
   where
-    go : (s t : Bool) → (a == 0) ≡ s → (b == 0) ≡ t → (if s then codes "(beneath)" else numbered (codes "beneath") a) ≡ (if t then codes "(beneath)" else numbered (codes "beneath") b) → a ≡ b
+    go : (s t : Bool) → (a == 0) ≡ s → (b == 0) ≡ t → (if s then codes "(underlying)" else numbered (codes "underlying") a) ≡ (if t then codes "(underlying)" else numbered (codes "underlying") b) → a ≡ b
     go true true p q same = eqb-true a 0 p ∙ sym (eqb-true b 0 q)
-    go true false p q same = let end = ap (λ (t : List ℕ). get_or t 8 0) same in absurd (omega (arith, end))
-    go false true p q same = let end = ap (λ (t : List ℕ). get_or t 8 0) same in absurd (omega (arith, end))
-    go false false p q same = numbered_once (codes "beneath") a b small few same
+    go true false p q same = let end = ap (λ (t : List ℕ). get_or t 11 0) same in absurd (omega (arith, end))
+    go false true p q same = let end = ap (λ (t : List ℕ). get_or t 11 0) same in absurd (omega (arith, end))
+    go false false p q same = numbered_once (codes "underlying") a b small few same

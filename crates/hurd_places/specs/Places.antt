@@ -179,14 +179,14 @@ abbrev pub or_root : List ℕ → List ℕ
 or_root [] = 47 ∷ []
 or_root (b ∷ bs) = b ∷ bs
 
--- what is beneath an active server: `(beneath)`, and `(beneath 2)` where the node itself is the root of an active server on such a root
-abbrev pub beneath : ℕ → List ℕ
-beneath k = if k == 0 then codes "(beneath)" else numbered (codes "beneath") k
+-- what is underlying an active server: `(underlying)`, and `(underlying 2)` where the node itself is the root of an active server on such a root
+abbrev pub underlying : ℕ → List ℕ
+underlying k = if k == 0 then codes "(underlying)" else numbered (codes "underlying") k
 
 -- the path of a node, from its plain path: a covered node has a mark, since its plain path is that of the active server's root
 abbrev pub covered_path : Bool → List ℕ → ℕ → List ℕ
 covered_path false path k = path
-covered_path true path k = or_root path ++ beneath k
+covered_path true path k = or_root path ++ underlying k
 
 -- how many active servers, each on the root of the one before, lead to a node
 abbrev pub level_by : Option Why → ℕ → ℕ

@@ -2,7 +2,7 @@
 ghost use Rattle.std.specs.Prelude.{◌≡◌, ◌<◌, ◌≤◌, if◌then◌else◌, ◌^◌, ◌++◌, ◌∷◌, length, option_and_then, IfOk, OnOk, Some};
 ghost use Rattle.hurd_sight.specs.Found.{found_from, why_of};
 ghost use Rattle.hurd_views.specs.Views.{row_at};
-ghost use Rattle.hurd_places.specs.Places.{beneath, count_to, entry_name, is_alike, is_covered, level_along, level_by, covered_path, name_in, name_text, numbered, or_root, path_along, step_by, way_of, way_to};
+ghost use Rattle.hurd_places.specs.Places.{underlying, count_to, entry_name, is_alike, is_covered, level_along, level_by, covered_path, name_in, name_text, numbered, or_root, path_along, step_by, way_of, way_to};
 
 use crate::labels::{Wanted, push_label_or};
 use crate::servers::{is_covered, target_at};
@@ -154,14 +154,14 @@ pub(crate) fn fill_root(path: &mut Vec<u8>) -> Result<(), AllocError>
     Ok(())
 }
 
-/// Adds what stands for the active server that a node is beneath.
-fn push_beneath(path: &mut Vec<u8>, level: u64) -> Result<(), AllocError>
-    ensures { OnOk result (path.new.items ≡ path.old.items ++ beneath level) }
+/// Adds what stands for the active server that a node is underlying.
+fn push_underlying(path: &mut Vec<u8>, level: u64) -> Result<(), AllocError>
+    ensures { OnOk result (path.new.items ≡ path.old.items ++ underlying level) }
 {
     if level == 0 {
-        return path.extend_from_slice(b"(beneath)");
+        return path.extend_from_slice(b"(underlying)");
     }
-    push_numbered(path, b"beneath", level)
+    push_numbered(path, b"underlying", level)
 }
 
 /// Marks the path of a node on which a server is active.
@@ -177,7 +177,7 @@ pub(crate) fn mark(
         return Ok(());
     }
     fill_root(path)?;
-    push_beneath(path, level)
+    push_underlying(path, level)
 }
 
 /// The path of a node that is held begins with the right that it was found by.

@@ -14,12 +14,12 @@ use Rattle.hurd_pairs.specs.declared.difference.Mismatch.TheVariants.{Users, Com
 use Rattle.hurd_pairs.specs.declared.difference.PairFault.{PairFault}
 use Rattle.hurd_pairs.specs.declared.difference.PairFault.TheVariants.{First, Second, NoPair}
 use Rattle.hurd_pairs.specs.declared.difference.Verdict.{Verdict}
-use Rattle.hurd_pairs.specs.declared.difference.Verdict.TheVariants.{Same, Otherwise}
+use Rattle.hurd_pairs.specs.declared.difference.Verdict.TheVariants.{Same, Different}
 
--- the exit status: 0 where those are told the same, 3 where they are told otherwise; 1 also where the scripts are no pair
+-- the exit status: 0 if those get the same replies, 3 if they get a different one; 1 also if the scripts cannot be compared
 abbrev pub pair_status : Result Verdict PairFault → ℕ
 pair_status (Ok Same) = 0
-pair_status (Ok Otherwise) = 3
+pair_status (Ok Different) = 3
 pair_status (Err (First fault)) = status_of (Err fault)
 pair_status (Err (Second fault)) = status_of (Err fault)
 pair_status (Err (NoPair why)) = 1
@@ -30,14 +30,14 @@ at_line line = codes ":" ++ decimal line
 
 -- what is said behind the name of the second file where a command is another, by the lines in the first and in the second, where there are such
 abbrev pub other_command : List ℕ → Option ℕ → Option ℕ → List ℕ
-other_command first (Some one) (Some two) = at_line two ++ (codes ": no pair: not the command at " ++ (first ++ at_line one))
-other_command first (Some one) None = codes ": no pair: lacks the command at " ++ (first ++ at_line one)
-other_command first None (Some two) = at_line two ++ (codes ": no pair: no such command in " ++ first)
-other_command first None None = codes ": no pair"
+other_command first (Some one) (Some two) = at_line two ++ (codes ": not comparable: differs from " ++ (first ++ at_line one))
+other_command first (Some one) None = codes ": not comparable: lacks the command at " ++ (first ++ at_line one)
+other_command first None (Some two) = at_line two ++ (codes ": not comparable: no such command in " ++ first)
+other_command first None None = codes ": not comparable"
 
--- and where two scripts are no pair
+-- and if two scripts cannot be compared
 abbrev pub mismatch_text : List ℕ → List ℕ → List ℕ → Mismatch → List ℕ
-mismatch_text first one two Users = codes ": no pair: other users than " ++ first
+mismatch_text first one two Users = codes ": not comparable: its users differ from those of " ++ first
 mismatch_text first one two (Commands m n) = other_command first (lines_in scripts one m) (lines_in scripts two n)
 
 -- what stands on standard error, where the files have these names and hold these texts

@@ -12,7 +12,7 @@ use Rattle.hurd_program.specs.declared.request.Request.{Request}
 use Rattle.hurd_program.specs.declared.request.TextSort.{TextSort}
 use Rattle.hurd_program.specs.declared.request.TextSort.TheVariants.{Script, Calls}
 use Rattle.hurd_program.specs.declared.request.Verb.{Verb}
-use Rattle.hurd_program.specs.declared.request.Verb.TheVariants.{Run, Learns, Sees, Draws}
+use Rattle.hurd_program.specs.declared.request.Verb.TheVariants.{Run, Learn, See, Draw}
 
 -- the line at which a text is bad, where a run of it ended so
 abbrev pub bad_line : Result (Unit {0}) Fault → Option ℕ
@@ -27,9 +27,9 @@ sort_of Calls = lists
 -- what is told, that with what some learn, what they see at the end, or a picture of that
 abbrev pub asked_of : Sort → Verb → Program
 asked_of sort Run = running sort
-asked_of sort (Learns who) = learning sort (string_bytes who)
-asked_of sort (Sees who) = seeing sort (string_bytes who)
-asked_of sort (Draws who) = drawing sort (option_map string_bytes who)
+asked_of sort (Learn who) = learning sort (string_bytes who)
+asked_of sort (See who) = seeing sort (string_bytes who)
+asked_of sort (Draw who) = drawing sort (option_map string_bytes who)
 
 abbrev pub asked : Request → Program
 asked request = asked_of (sort_of request.sort) request.verb

@@ -25,7 +25,7 @@ PrintsSample sort count (Err _) printed = printed ≡ []
 -- what stands on standard error
 abbrev pub sample_line : Result (Unit {0}) SampleTrouble → List ℕ
 sample_line (Ok _) = []
-sample_line (Err TooLong) = codes "hurd: so many have no room in 1048576 bytes\n"
+sample_line (Err TooLong) = codes "hurd: that many don't fit in 1048576 bytes\n"
 sample_line (Err Memory) = codes "hurd: out of memory\n"
 sample_line (Err Write) = codes "hurd: cannot write\n"
 sample_line (Err Unread) = codes "hurd: no such sample can be drawn\n"

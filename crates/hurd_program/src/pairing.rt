@@ -10,7 +10,7 @@ ghost use Rattle.hurd_program.specs.Pairs.{IsBlamed, PairEnds, PairExits, at_lin
 
 use crate::performing::{blame, named_line, stranger};
 use crate::request::TextSort;
-use hurd_pairs::{Mismatch, PairFault, Verdict, line_in_script, tell_scripts};
+use hurd_pairs::{Mismatch, PairFault, Verdict, compare_scripts, line_in_script};
 use hurd_terminal::{Fault, Input, Output, finish, read_text};
 use itoa::Buffer;
 use std::alloc::{AllocError, Global};
@@ -24,7 +24,28 @@ fn push_at(text: &mut Vec<u8>, line: usize) -> Result<(), AllocError>
     text.extend_from_slice(Buffer::new().format(line).as_bytes())
 }
 
-/// What is said behind the name of the second file where a command is another, by the lines in both, where there are such. An error is want of memory.
+/// Adds what is said of the first file, and its name.
+fn push_file(text: &mut Vec<u8>, said: &[u8], first: &[u8]) -> Result<(), AllocError>
+    ensures { OnOk result (text.new.items ≡ text.old.items ++ (said.now ++ first.now)) }
+{
+    text.extend_from_slice(said)?;
+    text.extend_from_slice(first)
+}
+
+/// Adds what is said of the first file, its name, and a line of it.
+fn push_file_at(
+    text: &mut Vec<u8>,
+    said: &[u8],
+    first: &[u8],
+    line: usize,
+) -> Result<(), AllocError>
+    ensures { OnOk result (text.new.items ≡ text.old.items ++ (said.now ++ (first.now ++ at_line line))) }
+{
+    push_file(text, said, first)?;
+    push_at(text, line)
+}
+
+/// What is said after the name of the second file if a command differs, with its lines in both, if it has lines there. Fails only if memory runs out.
 fn other_command(
     alloc: Global,
     first: &[u8],
@@ -37,26 +58,31 @@ fn other_command(
     match (one, two) {
         (Some(one), Some(two)) => {
             push_at(&mut text, two)?;
-            text.extend_from_slice(b": no pair: not the command at ")?;
-            text.extend_from_slice(first)?;
-            push_at(&mut text, one)?;
+            push_file_at(&mut text, b": not comparable: differs from ", first, one)?;
+            Ok(text)
         }
         (Some(one), None) => {
-            text.extend_from_slice(b": no pair: lacks the command at ")?;
-            text.extend_from_slice(first)?;
-            push_at(&mut text, one)?;
+            push_file_at(
+                &mut text,
+                b": not comparable: lacks the command at ",
+                first,
+                one,
+            )?;
+            Ok(text)
         }
         (None, Some(two)) => {
             push_at(&mut text, two)?;
-            text.extend_from_slice(b": no pair: no such command in ")?;
-            text.extend_from_slice(first)?;
+            push_file(&mut text, b": not comparable: no such command in ", first)?;
+            Ok(text)
         }
-        (None, None) => text.extend_from_slice(b": no pair")?,
+        (None, None) => {
+            text.extend_from_slice(b": not comparable")?;
+            Ok(text)
+        }
     }
-    Ok(text)
 }
 
-/// What is said behind the name of the second file where two good scripts are no pair. An error is want of memory.
+/// What is said after the name of the second file if two good scripts cannot be compared. Fails only if memory runs out.
 fn mismatch_line(
     alloc: Global,
     first: &[u8],
@@ -68,7 +94,10 @@ fn mismatch_line(
 {
     let mut text = match why {
         Mismatch::Users => {
-            let mut text = Vec::from_slice(alloc, b": no pair: other users than ")?;
+            let mut text = Vec::from_slice(
+                alloc,
+                b": not comparable: its users differ from those of ",
+            )?;
             text.extend_from_slice(first)?;
             text
         }
@@ -85,7 +114,7 @@ fn mismatch_line(
     Ok(text)
 }
 
-/// Says that two good scripts are no pair, or that memory was refused for that; answers the exit status.
+/// Says that two good scripts cannot be compared, or that memory ran out for that; returns the exit status.
 fn say_mismatch<E: Write>(
     alloc: Global,
     first: &[u8],
@@ -137,7 +166,7 @@ fn say_fault<E: Write>(
 }
 
 /// Compares two scripts, and says of a fault why, by the names of their files; answers the exit status.
-fn tell_read<W: Write, E: Write>(
+fn compare_read<W: Write, E: Write>(
     alloc: Global,
     who: &str,
     first: &[u8],
@@ -149,18 +178,18 @@ fn tell_read<W: Write, E: Write>(
 ) -> u8
     ensures { PairEnds who.now first.now second.now one.now two.now W.contents E.contents output.old output.new errors.old errors.new result }
 {
-    match tell_scripts(alloc, who, one, two, output) {
+    match compare_scripts(alloc, who, one, two, output) {
         Ok(Verdict::Same) => 0,
-        Ok(Verdict::Otherwise) => 3,
+        Ok(Verdict::Different) => 3,
         Err(PairFault::First(fault)) => say_fault(alloc, who, first, one, fault, errors),
         Err(PairFault::Second(fault)) => say_fault(alloc, who, second, two, fault, errors),
         Err(PairFault::NoPair(why)) => say_mismatch(alloc, first, second, one, two, why, errors),
     }
 }
 
-/// The whole program for two files: reads two scripts, prints where those whom a word names first see something else in the second, and where they are first
-/// told something else, and says of a fault why, by the names of the files; answers the exit status: 0 where they are told the same, 3 where they are told
-/// otherwise, 1 for a bad script, where somebody is named who isn't in it, and for scripts that are no pair, 2 for all else.
+/// The whole program for two files: reads two scripts, prints where those whom a word names first see something different in the second, and where they first
+/// get a different reply, and says of a fault why, by the names of the files; returns the exit status: 0 if they get the same replies, 3 if they get a different
+/// one, 1 for a bad script, if somebody is named who isn't in it, and for scripts that cannot be compared, 2 for all else.
 pub fn perform_pair<R: Read, Q: Read, W: Write, E: Write>(
     alloc: Global,
     who: &str,
@@ -178,7 +207,7 @@ pub fn perform_pair<R: Read, Q: Read, W: Write, E: Write>(
         Err(fault) => return finish(Err(fault), first, b"", b"", errors),
     };
     match read_text(alloc, two) {
-        Ok(other) => tell_read(
+        Ok(other) => compare_read(
             alloc,
             who,
             first,

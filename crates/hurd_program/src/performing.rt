@@ -30,9 +30,9 @@ fn done_of<T: Telling, W: Write>(
 {
     match verb {
         Verb::Run => transcribe::<T, W>(alloc, text, output),
-        Verb::Learns { who } => learn_text::<T, W>(alloc, who.as_str(), text, output),
-        Verb::Sees { who } => see_text::<T, W>(alloc, who.as_str(), text, output),
-        Verb::Draws { who } => draw_text::<T, W>(alloc, who, text, output),
+        Verb::Learn { who } => learn_text::<T, W>(alloc, who.as_str(), text, output),
+        Verb::See { who } => see_text::<T, W>(alloc, who.as_str(), text, output),
+        Verb::Draw { who } => draw_text::<T, W>(alloc, who, text, output),
     }
 }
 
@@ -107,11 +107,11 @@ pub(crate) fn stranger_line(alloc: Global, request: &Request) -> Result<Vec<u8>,
 {
     match &request.verb {
         Verb::Run => Ok(Vec::new(alloc)),
-        Verb::Learns { who } | Verb::Sees { who } => {
+        Verb::Learn { who } | Verb::See { who } => {
             named_line(alloc, stranger(request.sort), who.as_str())
         }
-        Verb::Draws { who: Some(who) } => named_line(alloc, stranger(request.sort), who.as_str()),
-        Verb::Draws { who: None } => Ok(Vec::new(alloc)),
+        Verb::Draw { who: Some(who) } => named_line(alloc, stranger(request.sort), who.as_str()),
+        Verb::Draw { who: None } => Ok(Vec::new(alloc)),
     }
 }
 

@@ -15,11 +15,11 @@ pub enum Verb {
     /// What it tells: a transcript, or each call with its reply.
     Run,
     /// That, and what some learn by what the others do. Here and below, these are users by their names, or tasks by their numbers, between commas.
-    Learns { who: String },
+    Learn { who: String },
     /// All that some see at the end.
-    Sees { who: String },
+    See { who: String },
     /// A picture of the world at the end; it is marked what some see, if any are named.
-    Draws { who: Option<String> },
+    Draw { who: Option<String> },
 }
 
 /// What is asked of a text.

@@ -62,7 +62,7 @@ fn line_of(trouble: SampleTrouble) -> &'static [u8]
     ensures { result.now ≡ sample_line (Err trouble) }
 {
     match trouble {
-        SampleTrouble::TooLong => b"hurd: so many have no room in 1048576 bytes\n",
+        SampleTrouble::TooLong => b"hurd: that many don't fit in 1048576 bytes\n",
         SampleTrouble::Memory => b"hurd: out of memory\n",
         SampleTrouble::Write => b"hurd: cannot write\n",
         SampleTrouble::Unread => b"hurd: no such sample can be drawn\n",

@@ -2,6 +2,7 @@
 use Rattle.std.proofs.Common.{◌≡◌, ◌∙◌, ◌<◌, ◌+◌, length, slice_get, Bool, true, false, ℕ, zero, suc, List, [], ◌∷◌, Option, Some, None, IfSome, Ok, inl, inr, refl, sym, ap, subst, arith}
 use Rattle.std.specs.Option.{option_map}
 use Rattle.std.proofs.lemmas.Bool.{and_parts, ltb-true}
+use Rattle.hurd_words.specs.declared.answers.Answer.{Answer}
 use Rattle.hurd_trans_iface.specs.Meaning.{Begins, Meaning, begin}
 use Rattle.hurd_kinds.specs.Boxes.{box_meaning}
 use Rattle.hurd_kinds.specs.declared.server_box.ServerBox.{ServerBox}
@@ -81,7 +82,7 @@ asking_none s = record { left = λ _. refl; given = λ _. refl; idle = λ _ _. r
 
 module _ (start s x : View ServerBox) (so : Asking start s) (fine : has_failed s ≡ false) where
   -- a part was told
-  pub asked_part : (text : List ℕ) → Tells box_meaning s (Ok (Output text)) x → (names : List (List ℕ)) → Goes (way_of start names) (Some text) (way_of x names)
+  pub asked_part : (answer : Answer) → Tells box_meaning s (Ok (Output answer)) x → (names : List (List ℕ)) → Goes (way_of start names) (Some answer) (way_of x names)
   asked_part text gives names = (
     gives.task,
     sym (so.left fine) ∙ part_told begin (left_in box_meaning s) (left_in box_meaning x) _ gives.left,

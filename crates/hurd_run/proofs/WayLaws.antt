@@ -11,7 +11,7 @@ use Rattle.hurd_terminal.proofs.RunLaws.{HasLimit}
 use Rattle.hurd_dialogue.specs.Parts.{Part}
 use Rattle.hurd_dialogue.specs.Parts as parts
 use Rattle.hurd_shell.specs.Session.{View, command_on, left_of, next_task}
-use Rattle.hurd_shell.specs.Transcript.{Maker, dialogue, part_by, part_of, tells, told_by}
+use Rattle.hurd_shell.specs.Transcript.{Maker, dialogue, part_by, answer_to, tells, told_by}
 use Rattle.hurd_shell.specs.declared.phase.Phase.{Phase}
 use Rattle.hurd_shell.proofs.IsolationLaws.{played_told}
 use Rattle.hurd_run.specs.Scripts.{scripts, way_of}
@@ -43,7 +43,7 @@ left_next : (make : Maker) (phase : Phase) (cs : List CommandLine) (w : World) �
 unfolding told_by
 left_next make phase [] w = refl
 left_next make phase (c ∷ cs) w =
-    sym (ap parts.next_task (played_told make c.task (λ r x. tells (part_by c (part_of c r) x) (dialogue cs x)) (command_on phase c) w))
+    sym (ap parts.next_task (played_told make c.task (λ r x. tells (part_by c (answer_to c r) x) (dialogue cs x)) (command_on phase c) w))
 
 pub task_next : (s : View ServerBox) (names : List (List ℕ)) → next_task s ≡ parts.next_task (way_of s names).left
 task_next s names = got_next s.commands s.given ∙ left_next begin s.phase (drop s.given s.commands) _

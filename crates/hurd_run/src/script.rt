@@ -3,12 +3,13 @@ ghost use Rattle.std.specs.Prelude.{◌≤◌, length, map, string_bytes};
 ghost use Rattle.hurd_run.specs.Scripts.{scripts, way_of};
 
 use crate::session::{booted, complaint_of, next_part, parsed};
-use hurd_creds::{Bytes, TaskId};
+use hurd_creds::TaskId;
 use hurd_dialogue::{Telling, boxed};
 use hurd_kinds::{ServerBox, empty_tree};
 use hurd_script::Script;
 use hurd_shell::Session;
 use hurd_terminal::Fault;
+use hurd_words::answers::Answer;
 use hurd_words::users::task_of;
 use hurd_world::{Noted, World};
 use std::alloc::{AllocError, Global};
@@ -45,7 +46,7 @@ impl Telling for RunningScript {
         Ok(boxed(alloc, RunningScript { session, names })?)
     }
 
-    fn next(&mut self, alloc: Global) -> Result<Option<Bytes>, AllocError> {
+    fn next(&mut self, alloc: Global) -> Result<Option<Answer>, AllocError> {
         next_part(alloc, &mut self.session)
     }
 

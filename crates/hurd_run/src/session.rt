@@ -12,13 +12,13 @@ ghost use Rattle.hurd_dialogue.specs.Parts.{Goes};
 ghost use Rattle.hurd_run.specs.Faults.{NotBooted, NotRead};
 ghost use Rattle.hurd_run.specs.Scripts.{scripts, way_of};
 
-use hurd_creds::Bytes;
 use hurd_dialogue::{boxed, complaint};
 use hurd_kinds::{ServerBox, server_for};
 use hurd_script::{Script, ScriptFault, parse_script};
 use hurd_shell::{Session, Want};
 use hurd_terminal::Fault;
 use hurd_trans_iface::Server;
+use hurd_words::answers::Answer;
 use std::alloc::{AllocError, Global};
 
 /// Reads a script's text.
@@ -77,18 +77,18 @@ pub(crate) fn booted<S: Server>(
     Ok(boxed(alloc, Session::begin(alloc, script, root)?)?)
 }
 
-/// The next part that a session tells, with the servers that it asks for on the way, as far as their words make any; none at its end. An error is
+/// What the next command of a session is answered, with the servers that it asks for on the way, as far as their words make any; none at its end. An error is
 /// want of memory.
 pub(crate) fn next_part(
     alloc: Global,
     session: &mut Session<ServerBox>,
-) -> Result<Option<Bytes>, AllocError>
-    ensures goes { IfOk result (λ part. (names : List (List ℕ)) → Goes (way_of session.old names) part (way_of session.new names)) }
+) -> Result<Option<Answer>, AllocError>
+    ensures goes { IfOk result (λ answer. (names : List (List ℕ)) → Goes (way_of session.old names) answer (way_of session.new names)) }
     ensures noted { OnOk result (NotesWhatIsTouched (state_of box_meaning session.old.world) (state_of box_meaning session.new.world)) }
 {
     'asked: loop {
         match session.next(alloc) {
-            Ok(Want::Output(part)) => return Ok(Some(part)),
+            Ok(Want::Output(answer)) => return Ok(Some(answer)),
             Ok(Want::Server(words)) => {
                 let server = server_for(alloc, &words)?;
                 session.answer(alloc, server);

@@ -52,7 +52,7 @@ behind_name line = without_end (skip_spaces (skip_word (skip_spaces line)))
 
 -- the line of a transcript that names a command: the user's name, `$ `, and the line behind the name
 abbrev pub header_of : List ℕ → List ℕ → List ℕ
-header_of name line = name ++ codes "$ " ++ behind_name line ++ 10 ∷ []
+header_of name line = name ++ codes "$ " ++ behind_name line
 
 -- nobody has the name that the line begins with
 abbrev pub is_undeclared : List (List ℕ) → List (List ℕ) → Bool

@@ -19,15 +19,15 @@ use Rattle.hurd_script.specs.declared.reader.ScriptFault.TheVariants as fault
 -- a flaw in words
 abbrev pub flaw_text : ScriptFlaw → List ℕ
 flaw_text Length = codes "longer than 1048576 bytes"
-flaw_text Word = codes "words are of printable ASCII, with a backslash only before s, n or a backslash"
-flaw_text LateUser = codes "users stand before the first command"
+flaw_text Word = codes "words are printable ASCII; a backslash must be followed by s, n or a backslash"
+flaw_text LateUser = codes "user lines must come before the first command"
 flaw_text UserForm = codes "a user line is: user NAME UIDS GIDS"
 flaw_text UserName = codes "a user's name is 1 to 16 lower-case letters and digits, a letter first"
 flaw_text TakenName = codes "the name is taken, or is root or user"
 flaw_text UserCount = codes "there are 64 users already"
 flaw_text UserIds = codes "UIDS and GIDS are each at most 32 numbers below 4294967296 with commas between them, or -"
 flaw_text NoUser = codes "the line begins with no user's name"
-flaw_text NoCommand = codes "no command stands behind the name"
+flaw_text NoCommand = codes "no command after the name"
 flaw_text OtherCommand = codes "no such command"
 
 -- why nobody of this name may be declared beside those of these names, by the order of the tests

@@ -39,8 +39,8 @@ impl ScriptFlaw {
         match self {
             ScriptFlaw::Length => "longer than 1048576 bytes",
             ScriptFlaw::Word =>
-                "words are of printable ASCII, with a backslash only before s, n or a backslash",
-            ScriptFlaw::LateUser => "users stand before the first command",
+                "words are printable ASCII; a backslash must be followed by s, n or a backslash",
+            ScriptFlaw::LateUser => "user lines must come before the first command",
             ScriptFlaw::UserForm => "a user line is: user NAME UIDS GIDS",
             ScriptFlaw::UserName => {
                 "a user's name is 1 to 16 lower-case letters and digits, a letter first"
@@ -50,7 +50,7 @@ impl ScriptFlaw {
             ScriptFlaw::UserIds =>
                 "UIDS and GIDS are each at most 32 numbers below 4294967296 with commas between them, or -",
             ScriptFlaw::NoUser => "the line begins with no user's name",
-            ScriptFlaw::NoCommand => "no command stands behind the name",
+            ScriptFlaw::NoCommand => "no command after the name",
             ScriptFlaw::OtherCommand => "no such command",
         }
     }

@@ -13,7 +13,6 @@ pub fn header(alloc: Global, name: &str, line: &[u8]) -> Result<Bytes, AllocErro
     let mut header = Vec::from_slice(alloc, name.as_bytes())?;
     header.extend_from_slice(b"$ ")?;
     header.extend_from_slice(behind_name(line))?;
-    header.push(b'\n')?;
     Ok(Bytes::new(header))
 }
 

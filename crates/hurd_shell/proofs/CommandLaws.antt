@@ -8,7 +8,7 @@ use Rattle.hurd_machine.specs.declared.call.PlainCall.TheVariants.{FsysSetOption
 use Rattle.hurd_world.specs.Noting.{State}
 use Rattle.hurd_trans_iface.specs.Nodes.{has_words}
 use Rattle.hurd_shell.specs.Programs.{Prog, gives, made, data_of, done_of}
-use Rattle.hurd_shell.specs.Commands.{at_cursor, cat_from, cat_read, options, prints, silent}
+use Rattle.hurd_shell.specs.Commands.{at_cursor, cat_from, cat_read, options, prints, refuses, silent}
 use Rattle.hurd_shell.specs.Progress.{LeadsTo}
 use Rattle.hurd_shell.proofs.ProgramLaws.{leads_refl, tried_ends}
 
@@ -48,7 +48,7 @@ cat_some reads p output (b ∷ bs) next some l full same = rw same (cat_turn rea
 
 -- a refused read
 pub cat_err : {t : ℕ} {w x : State} (reads p : ℕ) (output : List ℕ) (e : Errno) → 0 < reads → LeadsTo t (reading p) w (gives (Err e)) x
-    → LeadsTo t (cat_from reads p output) w (gives (Ok (record { output = output; refusal = Some e }))) x
+    → LeadsTo t (cat_from reads p output) w (gives (Ok (refuses output e))) x
 cat_err reads p output e some l = cat_turn reads p output (Err e) some l
 
 -- with words, they are given to the server

@@ -19,8 +19,9 @@ use Rattle.hurd_world.specs.Boot.{first_world}
 use Rattle.hurd_world.proofs.FirstWorld.{first_sound}
 use Rattle.hurd_shell.specs.Programs.{Prog, gives, calls, asks}
 use Rattle.hurd_shell.specs.Commands.{program_of}
-use Rattle.hurd_dialogue.specs.Parts.{Part, texts}
-use Rattle.hurd_shell.specs.Transcript.{Dialogue, tells, Maker, dialogue, part_by, part_of, parts_by, played, told_by}
+use Rattle.hurd_dialogue.specs.Parts.{Part, answers}
+use Rattle.hurd_words.specs.declared.answers.Answer.{Answer}
+use Rattle.hurd_shell.specs.Transcript.{Dialogue, tells, Maker, dialogue, part_by, answer_to, parts_by, played, told_by}
 use Rattle.hurd_shell.specs.Isolation.{calls_in, command_calls, command_part, result_in, script_calls, world_after, worlds_of, commands_by, parts_to, QuietCommands, OnePartEach, ToldInTurn, UnmovedCommands, CommandsSideBySide, ScriptsSideBySide, IsolatedCommands, IsolatedByView, AsWithoutOthers, IsolatedScripts, OwnCommandFromView}
 
 -- runs in two halves
@@ -53,35 +54,35 @@ part_at make c w = part_by c (command_part make c w) (run w (command_calls make 
 pub first_told : (make : Maker) (c : CommandLine) (cs : List CommandLine) (w : World)
     → told_by make (dialogue (c ∷ cs) w) ≡ part_at make c w ∷ told_by make (dialogue cs (run w (command_calls make c w)))
 unfolding dialogue told_by
-first_told make c cs w = played_told make c.task (λ r x. tells (part_by c (part_of c r) x) (dialogue cs x)) (program_of (action_of c)) w
+first_told make c cs w = played_told make c.task (λ r x. tells (part_by c (answer_to c r) x) (dialogue cs x)) (program_of (action_of c)) w
 
 pub none_told : (make : Maker) (w : World) → told_by make (dialogue [] w) ≡ []
 unfolding dialogue told_by
 none_told make w = refl
 
 no_parts : (make : Maker) (w : World) → parts_by make (dialogue [] w) ≡ []
-no_parts make w = ap texts (none_told make w)
+no_parts make w = ap answers (none_told make w)
 
--- their texts
+-- their answers
 first_part : (make : Maker) (c : CommandLine) (cs : List CommandLine) (w : World)
     → parts_by make (dialogue (c ∷ cs) w) ≡ command_part make c w ∷ parts_by make (dialogue cs (run w (command_calls make c w)))
-first_part make c cs w = ap texts (first_told make c cs w)
+first_part make c cs w = ap answers (first_told make c cs w)
 
 pub one_part_each : OnePartEach
 one_part_each make [] w = ap length (no_parts make w)
 one_part_each make (c ∷ cs) w = ap length (first_part make c cs w) ∙ ap (λ (n : ℕ). suc n) (one_part_each make cs (run w (command_calls make c w)))
 
 pub told_in_turn : ToldInTurn
-told_in_turn make [] ds w = sym (ap (λ (ps : List (List ℕ)). ps ++ parts_by make (dialogue ds w)) (no_parts make w))
+told_in_turn make [] ds w = sym (ap (λ (ps : List Answer). ps ++ parts_by make (dialogue ds w)) (no_parts make w))
 told_in_turn make (c ∷ cs) ds w =
     let x = run w (command_calls make c w) in
-    let later : World → List (List ℕ) = λ y. parts_by make (dialogue ds y) in
+    let later : World → List Answer = λ y. parts_by make (dialogue ds y) in
     first_part make c (cs ++ ds) w
-    ∙ (ap (λ (ps : List (List ℕ)). command_part make c w ∷ ps) (told_in_turn make cs ds x)
-    ∙ ap₂ (λ (ps qs : List (List ℕ)). ps ++ qs) (sym (first_part make c cs w)) (ap later (sym (run_both (command_calls make c w) (script_calls make cs x) w))))
+    ∙ (ap (λ (ps : List Answer). command_part make c w ∷ ps) (told_in_turn make cs ds x)
+    ∙ ap₂ (λ (ps qs : List Answer). ps ++ qs) (sym (first_part make c cs w)) (ap later (sym (run_both (command_calls make c w) (script_calls make cs x) w))))
 
 -- what S is told, command by command
-abbrev pub told_to : (ℕ → Bool) → Maker → List CommandLine → World → List (List ℕ)
+abbrev pub told_to : (ℕ → Bool) → Maker → List CommandLine → World → List Answer
 told_to S make [] w = []
 told_to S make (c ∷ cs) w =
     if S c.task then command_part make c w ∷ told_to S make cs (run w (command_calls make c w))
@@ -91,7 +92,7 @@ pub told_parts : (S : ℕ → Bool) (make : Maker) (cs : List CommandLine) (w : 
 told_parts S make [] w = refl
 told_parts S make (c ∷ cs) w =
     ap (parts_to S (c ∷ cs)) (first_part make c cs w)
-    ∙ ap (λ (ps : List (List ℕ)). if S c.task then command_part make c w ∷ ps else ps) (told_parts S make cs (run w (command_calls make c w)))
+    ∙ ap (λ (ps : List Answer). if S c.task then command_part make c w ∷ ps else ps) (told_parts S make cs (run w (command_calls make c w)))
 
 -- a program of a task of S goes the same way in two worlds that have the same view for S
 
@@ -115,7 +116,7 @@ own_program S make t ours (asks words k) v w sv sw same = own_program S make t o
 pub own_command : OwnCommandFromView
 own_command S make v w c sv sw ours same =
     let now = own_program S make c.task ours (program_of (action_of c)) v w sv sw same in
-    (ap (part_of c) now.0, now.1)
+    (ap (answer_to c) now.0, now.1)
 
 -- a program of another task makes no call of a task of S
 none_of : {A : Type 0} (S : ℕ → Bool) (make : Maker) (t : ℕ) → S t ≡ false → (p : Prog A) (w : World) → calls_of S (calls_in make t p w) ≡ []
@@ -138,7 +139,7 @@ told_alike S make = together (λ (c : CommandLine). S c.task) (Told S make)
     let ms = command_calls make c v in
     let ns = command_calls make c w in
     rw e (λ views.
-    ap₂ ◌∷◌ (ap (part_of c) (own_program S make c.task e (program_of (action_of c)) v w sv sw views.0).0)
+    ap₂ ◌∷◌ (ap (answer_to c) (own_program S make c.task e (program_of (action_of c)) v w sv sw views.0).0)
     (ih (run v ms) (run w ns) (run_sound ms v sv) (run_sound ns w sw) views.1)))
 
 pub commands_side_by_side : CommandsSideBySide
@@ -226,7 +227,7 @@ behind S make [] cs ds w same = same
 behind S make (c ∷ before) cs ds w same =
     let x = run w (command_calls make c w) in
     let later = rw (run_both (command_calls make c w) (script_calls make before x) w) at same in
-    ap (λ (ps : List (List ℕ)). if S c.task then command_part make c w ∷ ps else ps) (behind S make before cs ds x later)
+    ap (λ (ps : List Answer). if S c.task then command_part make c w ∷ ps else ps) (behind S make before cs ds x later)
 
 begun_alike : (S : ℕ → Bool) (make : Maker) (before cs ds : List CommandLine) (w : World) → Sound w → commands_by S cs ≡ commands_by S ds
     → QuietCommands S make cs (world_after make before w) → QuietCommands S make ds (world_after make before w)
@@ -240,7 +241,7 @@ begun_alike S make before cs ds w sound commands qc qd =
 pub isolated_scripts : IsolatedScripts
 isolated_scripts S make m script other before cs ds begins users ours theirs commands qc qd =
     let w = first_world m (users_of script) in
-    let to : List IdSets → List CommandLine → List (List ℕ) = λ us es. told_to S make es (first_world m us) in
+    let to : List IdSets → List CommandLine → List Answer = λ us es. told_to S make es (first_world m us) in
     let there = subst (λ (us : List IdSets). QuietCommands S make ds (world_after make before (first_world m us))) (sym users) qd in
     let told = begun_alike S make before cs ds w (first_sound m (users_of script) begins) commands qc there in
     told_parts S make (commands_of script) w

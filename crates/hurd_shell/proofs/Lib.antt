@@ -4,7 +4,6 @@ pub mod CommandLaws
 pub mod SoundLaws
 pub mod AnswerLaws
 pub mod StageLaws
-pub mod TextLaws
 pub mod SessionLaws
 pub mod ReplyLaws
 pub mod OutputLaws

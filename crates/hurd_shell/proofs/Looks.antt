@@ -18,7 +18,7 @@ use Rattle.hurd_world.specs.Boot.{first_world}
 use Rattle.hurd_world.proofs.FirstWorld.{first_sound}
 use Rattle.hurd_shell.specs.Programs.{Prog, gives, calls, asks}
 use Rattle.hurd_shell.specs.Commands.{program_of}
-use Rattle.hurd_shell.specs.Transcript.{Maker, part_of}
+use Rattle.hurd_shell.specs.Transcript.{Maker, answer_to}
 use Rattle.hurd_shell.specs.Isolation.{calls_in, command_calls, commands_by, result_in, worlds_of}
 use Rattle.hurd_shell.specs.Looks.{CommandsByLooks, OwnCommandFromLooks, ScriptsByLooks}
 use Rattle.hurd_shell.proofs.IsolationLaws.{run_sound, told_parts, told_to}
@@ -41,7 +41,7 @@ own_program S f make t ours (asks words k) v w sv sw looks = own_program S f mak
 pub own_command_looks : OwnCommandFromLooks
 own_command_looks S f make v w c sv sw ours looks =
     let now = own_program S f make c.task ours (program_of (action_of c)) v w sv sw looks in
-    (ap (part_of c) now.0, now.1)
+    (ap (answer_to c) now.0, now.1)
 
 -- commands, one after another
 abbrev Told : (ℕ → Bool) → Maker → List CommandLine → List CommandLine → Type 0

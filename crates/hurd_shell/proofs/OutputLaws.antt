@@ -1,6 +1,7 @@
 -- What a session gave and was answered, along its transcript.
 use Rattle.std.proofs.Common.{◌≡◌, ℕ, List, [], ◌∷◌, ◌++◌, Option, Ok, refl, sym, ◌∙◌, ap, append-nil}
 use Rattle.hurd_trans_iface.specs.Meaning.{Meaning}
+use Rattle.hurd_words.specs.declared.answers.Answer.{Answer}
 use Rattle.hurd_shell.specs.Session.{Answers, Tells, View, left_in}
 use Rattle.hurd_shell.specs.Outputs.{Came, Event, answered, answers_in, asked, told, told_in}
 use Rattle.hurd_dialogue.specs.Parts.{Part}
@@ -20,7 +21,7 @@ answer_wanted ends left server says a = absurd a
 answer_wanted (tells part rest) left server says a = absurd a
 answer_wanted (wants words rest) left server says a = ap (λ (e : Dialogue). wanted_of e says) (sym a)
 
-told_parts : (d rest : Dialogue) (part : Part) (says : List (Option Meaning)) → d ≡ tells part rest → parts_of d says ≡ part.text ∷ parts_of rest says
+told_parts : (d rest : Dialogue) (part : Part) (says : List (Option Meaning)) → d ≡ tells part rest → parts_of d says ≡ part.answer ∷ parts_of rest says
 unfolding parts_of
 told_parts d rest part says same = ap (λ (e : Dialogue). parts_of e says) same
 
@@ -33,7 +34,7 @@ pub came_parts : {S : Type 0} (f : S → Meaning) (s x : View S) (events : List 
     → (says : List (Option Meaning)) → parts_of (left_in f s) (answers_in events ++ says) ≡ told_in events ++ parts_of (left_in f x) says
 came_parts f s x [] came says = ap (λ (y : View _). parts_of (left_in f y) says) (sym came)
 came_parts f s x (told part ∷ events) (y, happened, came) says =
-    told_parts _ _ _ _ happened.left ∙ ap (λ (ps : List (List ℕ)). part ∷ ps) (came_parts f y x events came says)
+    told_parts _ _ _ _ happened.left ∙ ap (λ (ps : List Answer). part ∷ ps) (came_parts f y x events came says)
 came_parts f s x (asked words ∷ events) (y, happened, came) says =
     ap (λ (d : Dialogue). parts_of d (answers_in events ++ says)) (sym happened.0) ∙ came_parts f y x events came says
 came_parts f s x (answered server ∷ events) (y, happened, came) says = answer_parts _ _ server _ happened.0 ∙ came_parts f y x events came says
@@ -55,11 +56,11 @@ pub came_whole : {S : Type 0} (f : S → Meaning) (s x : View S) (events : List 
     → told_in events ≡ parts_of (left_in f s) (answers_in events)
 came_whole f s x events came done =
     let left = came_parts f s x events came [] in
-    sym (ap (parts_of (left_in f s)) (sym (append-nil (answers_in events))) ∙ (left ∙ (ap (λ (ps : List (List ℕ)). told_in events ++ ps) (no_parts _ [] done.0) ∙ append-nil (told_in events))))
+    sym (ap (parts_of (left_in f s)) (sym (append-nil (answers_in events))) ∙ (left ∙ (ap (λ (ps : List Answer). told_in events ++ ps) (no_parts _ [] done.0) ∙ append-nil (told_in events))))
 
 -- a maker's answers
 pub maker_answers : (make : Maker) (d : Dialogue) → parts_by make d ≡ parts_of d (says_by make d)
 unfolding told_by parts_of says_by
 maker_answers make ends = refl
-maker_answers make (tells part rest) = ap (λ (ps : List (List ℕ)). part.text ∷ ps) (maker_answers make rest)
+maker_answers make (tells part rest) = ap (λ (ps : List Answer). part.answer ∷ ps) (maker_answers make rest)
 maker_answers make (wants words rest) = maker_answers make (rest (make words))

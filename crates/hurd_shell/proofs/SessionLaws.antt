@@ -5,6 +5,7 @@ use Rattle.std.specs.Option.{option_map}
 use Rattle.std.proofs.lemmas.Bool.{and_parts, lt-ltb, ltb-true}
 use Rattle.std.proofs.lemmas.List.{drop_all}
 use Rattle.hurd_creds.specs.declared.errno.Errno.{Errno}
+use Rattle.hurd_words.specs.declared.answers.Answer.{Answer}
 use Rattle.hurd_trans_iface.specs.Meaning.{Meaning}
 use Rattle.hurd_machine.specs.World.{World}
 use Rattle.hurd_machine.specs.Sound.{Sound}
@@ -30,7 +31,7 @@ use Rattle.hurd_shell.specs.Programs.{Pause, Prog, gives, calls, asks, bind, on_
 use Rattle.hurd_shell.specs.Progress.{DoesAll, LeadsTo, Reaches, stopped}
 use Rattle.hurd_shell.specs.Stages.{answer_with, progress_on, stage_behind, waiting_on}
 use Rattle.hurd_shell.specs.Session.{Answers, HangsTogether, Takes, Tells, command_on, is_failed, left_of, waits_by}
-use Rattle.hurd_shell.specs.Transcript.{Dialogue, ends, tells, dialogue, part_by, part_of, played, AsksFor}
+use Rattle.hurd_shell.specs.Transcript.{Dialogue, ends, tells, dialogue, part_by, answer_to, played, AsksFor}
 use Rattle.hurd_shell.specs.Turns.{Stands, turn_of, turn_on}
 use Rattle.hurd_shell.proofs.ProgramLaws.{go-asks, go-gives, tried_leads}
 use Rattle.hurd_shell.proofs.LookLaws.{held_leads}
@@ -53,17 +54,17 @@ played_gives t r w next = refl
 
 -- what is told behind a command
 abbrev behind : CommandLine → (World → Dialogue) → Result Printed Errno → World → Dialogue
-behind c next r x = tells (part_by c (part_of c r) x) (next x)
+behind c next r x = tells (part_by c (answer_to c r) x) (next x)
 
 ended : (c : CommandLine) (p : Prog Printed) (w x : State) (r : Result Printed Errno) (turn : Turn) (next : World → Dialogue)
-    → LeadsTo c.task p w (gives r) x → Some turn ≡ Some (Told (part_of c r)) → played c.task p w.world (behind c next) ≡ turn_on c next turn x.world
+    → LeadsTo c.task p w (gives r) x → Some turn ≡ Some (Told (answer_to c r)) → played c.task p w.world (behind c next) ≡ turn_on c next turn x.world
 ended c p w x r turn next l same =
-    let told : turn ≡ Told (part_of c r) = cc in
+    let told : turn ≡ Told (answer_to c r) = cc in
     rw told (leads_played (behind c next) l ∙ played_gives c.task r x.world (behind c next))
 
 -- a command that came to its end, or waits for a server, tells what is left to tell after that turn
 pub turned : (c : CommandLine) (p : Prog Printed) (w x : State) (r : Result Progress Stop) (turn : Turn) → Reaches c.task p w progress_on r x → Some turn ≡ turn_of c r
-    → (next : World → Dialogue) → played c.task p w.world (λ r y. tells (part_by c (part_of c r) y) (next y)) ≡ turn_on c next turn x.world
+    → (next : World → Dialogue) → played c.task p w.world (λ r y. tells (part_by c (answer_to c r) y) (next y)) ≡ turn_on c next turn x.world
 turned c p w x (Ok (Ended printed)) turn d same next = ended c p w x (Ok printed) turn next d.reaches same
 turned c p w x (Ok (progress.Waits waiting)) turn d same next =
     let waits : turn ≡ Waits waiting = cc in
@@ -108,13 +109,13 @@ none_left phase cs k w all = ap (λ (ds : List CommandLine). left_of phase ds w)
 
 -- what a session has to tell is what its turn comes to
 pub turn_left : (at : Phase) (cs : List CommandLine) (k : ℕ) (c : CommandLine) (w x : World) (turn : Turn) → k < length cs → c ≡ get_or cs k c
-    → ((next : World → Dialogue) → played c.task (command_on at c) w (λ r y. tells (part_by c (part_of c r) y) (next y)) ≡ turn_on c next turn x)
+    → ((next : World → Dialogue) → played c.task (command_on at c) w (λ r y. tells (part_by c (answer_to c r) y) (next y)) ≡ turn_on c next turn x)
     → left_of at (drop k cs) w ≡ turn_on c (dialogue (drop (k + 1) cs)) turn x
 turn_left at cs k c w x turn within here same = ap (λ (ds : List CommandLine). left_of at ds w) (at_command cs k c within here) ∙ same (dialogue (drop (k + 1) cs))
 
 -- a part is told, and the commands behind are left
-pub part_told : (c : CommandLine) (cs : List CommandLine) (text : List ℕ) (x : World) → turn_on c (dialogue cs) (Told text) x ≡ tells (part_by c text x) (left_of phase.Between cs x)
-part_told c cs text x = ap (tells (part_by c text x)) (sym (between cs x))
+pub part_told : (c : CommandLine) (cs : List CommandLine) (answer : Answer) (x : World) → turn_on c (dialogue cs) (Told answer) x ≡ tells (part_by c answer x) (left_of phase.Between cs x)
+part_told c cs answer x = ap (tells (part_by c answer x)) (sym (between cs x))
 
 -- a server is waited for, and the command is left with those behind
 pub waits_left : (cs : List CommandLine) (k : ℕ) (c : CommandLine) (waiting : Waiting) (x : World) → k < length cs → c ≡ get_or cs k c
@@ -190,7 +191,7 @@ took_sound f world left commands given at t waiting server stage answer is d han
 -- what is told of a command that came to its end, or waits for a server, unless memory was refused
 pub told_turn : {E : Type 0} (c : CommandLine) (p : Prog Printed) (w x : State) (r : Result Progress Stop) (told : Result Turn E) → Reaches c.task p w progress_on r x
     → IfOk told (λ turn. Some turn ≡ turn_of c r)
-    → IfOk told (λ turn. (next : World → Dialogue) → played c.task p w.world (λ r y. tells (part_by c (part_of c r) y) (next y)) ≡ turn_on c next turn x.world)
+    → IfOk told (λ turn. (next : World → Dialogue) → played c.task p w.world (λ r y. tells (part_by c (answer_to c r) y) (next y)) ≡ turn_on c next turn x.world)
 told_turn c p w x r (Ok turn) d same = turned c p w x r turn d same
 told_turn c p w x r (Err e) d same = tt
 
@@ -206,7 +207,7 @@ took_stays answer d = (does_leads answer d).stays
 -- what a session gives after a turn
 pub told_next : {S : Type 0} (f : S → Meaning) (world left : Whole S) (commands : List CommandLine) (given after : ℕ) (at next : Phase) (c : CommandLine) (turn : Turn) (want : Want)
     → given < length commands → c ≡ get_or commands given c
-    → ((n : World → Dialogue) → played c.task (command_on at c) (world_of f world) (λ r y. tells (part_by c (part_of c r) y) (n y)) ≡ turn_on c n turn (world_of f left))
+    → ((n : World → Dialogue) → played c.task (command_on at c) (world_of f world) (λ r y. tells (part_by c (answer_to c r) y) (n y)) ≡ turn_on c n turn (world_of f left))
     → Stands turn (given + 1) given want after next
     → Tells f (record { world = world; commands = commands; given = given; phase = at }) (Ok want)
     (record { world = left; commands = commands; given = after; phase = next })

@@ -23,6 +23,8 @@ use Rattle.hurd_shell.specs.declared.commands.Printed.{Printed}
 use Rattle.hurd_shell.specs.Looking.{open_node}
 use Rattle.hurd_shell.specs.Programs.{Prog, gives, asks, tried, bind, made, closing, data_of, names_of, port_of, stat_of, words_of, done_of, set_of}
 use Rattle.hurd_words.specs.Printing.{stat_line, words_line}
+use Rattle.hurd_words.specs.declared.answers.Content.TheVariants.{Text, Names}
+use Rattle.hurd_words.specs.declared.answers.Ending.TheVariants as ending
 
 -- the mode of directories that a command makes: 0o755
 abbrev pub directory_mode : Mode
@@ -40,9 +42,21 @@ most_reads = 16
 abbrev pub with_open : List ℕ → OpenFlags → (ℕ → Prog Printed) → Prog Printed
 with_open path flags k = bind (open_node path flags) (λ p. closing p (k p))
 
--- this output, and no refusal
+-- this text is put out, and the command is done
 abbrev pub prints : List ℕ → Printed
-prints output = record { output = output; refusal = None }
+prints output = record { output = Text output; ending = ending.Done }
+
+-- these names are, each kept apart
+abbrev pub lists : List (List ℕ) → Printed
+lists names = record { output = Names names; ending = ending.Done }
+
+-- this text is put out, and then a call is refused
+abbrev pub refuses : List ℕ → Errno → Printed
+refuses output e = record { output = Text output; ending = ending.Refused e }
+
+-- the words of a command are not those that it has
+abbrev pub misused : Printed
+misused = record { output = Text []; ending = ending.Usage }
 
 -- a change is made, and nothing is printed
 abbrev pub silent : Prog (Unit {0}) → Prog Printed
@@ -50,7 +64,7 @@ silent p = bind p (λ u. gives (Ok (prints [])))
 
 -- what a read gave: a refusal, the end, or bytes behind which there may be more
 abbrev pub cat_read : List ℕ → (List ℕ → Prog Printed) → Result (List ℕ) Errno → Prog Printed
-cat_read output more (Err e) = gives (Ok (record { output = output; refusal = Some e }))
+cat_read output more (Err e) = gives (Ok (refuses output e))
 cat_read output more (Ok []) = gives (Ok (prints output))
 cat_read output more (Ok (b ∷ bs)) = more (output ++ b ∷ bs)
 
@@ -67,14 +81,9 @@ cat p = cat_from most_reads p []
 abbrev pub is_shown : List ℕ → Bool
 is_shown name = not (bytes_eq name (codes ".") || bytes_eq name (codes ".."))
 
--- the names, one a line
-abbrev pub as_lines : List (List ℕ) → List ℕ
-as_lines [] = []
-as_lines (name ∷ names) = name ++ 10 ∷ as_lines names
-
 -- ls: the names in a directory but `.` and `..`
 abbrev pub ls : ℕ → Prog Printed
-ls p = bind (made (Plain (DirReaddir p)) names_of) (λ names. gives (Ok (prints (as_lines (filter is_shown names)))))
+ls p = bind (made (Plain (DirReaddir p)) names_of) (λ names. gives (Ok (lists (filter is_shown names))))
 
 -- put: the file is cut to nothing, and the text written
 abbrev pub put : List ℕ → ℕ → Prog Printed
@@ -225,4 +234,4 @@ program_of (Chown owner group node) = with_open node to_change (chown owner grou
 program_of (Showtrans node) = with_open node to_look_behind showtrans
 program_of (Fsysopts node words) = with_open node to_control (fsysopts words)
 program_of (Settrans flags node words) = with_open node (to_set flags) (settrans flags words)
-program_of Usage = gives (Ok (prints (codes "usage" ++ 10 ∷ [])))
+program_of Usage = gives (Ok misused)

@@ -4,6 +4,7 @@ use Rattle.std.specs.List.{filter}
 use Rattle.hurd_creds.specs.declared.errno.Errno.{Errno}
 use Rattle.hurd_trans_iface.specs.Meaning.{Meaning, Begins}
 use Rattle.hurd_machine.specs.World.{World}
+use Rattle.hurd_words.specs.declared.answers.Answer.{Answer}
 use Rattle.hurd_machine.specs.Sight.{SameView}
 use Rattle.hurd_machine.specs.Sound.{Sound}
 use Rattle.hurd_script.specs.Commands.{CommandLine}
@@ -14,7 +15,7 @@ use Rattle.hurd_laws.specs.Runs.{TaskCall, run, own_worlds, SameViews, Quiet}
 use Rattle.hurd_world.specs.Boot.{first_world}
 use Rattle.hurd_shell.specs.Programs.{Prog, gives, calls, asks}
 use Rattle.hurd_shell.specs.Commands.{program_of}
-use Rattle.hurd_shell.specs.Transcript.{Maker, dialogue, dialogue_of, part_of, parts_by}
+use Rattle.hurd_shell.specs.Transcript.{Maker, dialogue, dialogue_of, answer_to, parts_by}
 
 -- the calls that task t makes in a program whose servers a maker makes
 unfoldable pub calls_in : {A : Type 0} → Maker → ℕ → Prog A → World → List TaskCall
@@ -32,9 +33,9 @@ result_in make t (asks words k) w = result_in make t (k (make words)) w
 abbrev pub command_calls : Maker → CommandLine → World → List TaskCall
 command_calls make c w = calls_in make c.task (program_of (action_of c)) w
 
--- the part of one command in what is told
-abbrev pub command_part : Maker → CommandLine → World → List ℕ
-command_part make c w = part_of c (result_in make c.task (program_of (action_of c)) w)
+-- what one command is answered
+abbrev pub command_part : Maker → CommandLine → World → Answer
+command_part make c w = answer_to c (result_in make c.task (program_of (action_of c)) w)
 
 -- the calls of commands that are made one after another
 abbrev pub script_calls : Maker → List CommandLine → World → List TaskCall
@@ -53,8 +54,8 @@ worlds_of S make w cs = own_worlds (λ (c : CommandLine). S c.task) (λ (c : Com
 abbrev pub commands_by : (ℕ → Bool) → List CommandLine → List CommandLine
 commands_by S cs = filter (λ c. S c.task) cs
 
--- of the parts that commands have in a transcript, one for each, those of the commands of tasks of S
-abbrev pub parts_to : (ℕ → Bool) → List CommandLine → List (List ℕ) → List (List ℕ)
+-- of the answers to commands, one for each, those to commands of tasks of S
+abbrev pub parts_to : (ℕ → Bool) → List CommandLine → List Answer → List Answer
 parts_to S (c ∷ cs) (part ∷ parts) = if S c.task then part ∷ parts_to S cs parts else parts_to S cs parts
 parts_to S cs parts = []
 

@@ -7,6 +7,7 @@ use Rattle.hurd_machine.specs.World.{World}
 use Rattle.hurd_machine.specs.Sound.{Sound}
 use Rattle.hurd_script.specs.Commands.{CommandLine, coded_command}
 use Rattle.hurd_creds.specs.Access.{IdSets}
+use Rattle.hurd_words.specs.declared.answers.Answer.{Answer}
 use Rattle.hurd_script.specs.Script.{bad, commands_of, users_of}
 use Rattle.hurd_world.specs.Boot.{boot_of, first_world}
 use Rattle.hurd_world.specs.Held.{Whole, coded_whole, world_of}
@@ -14,7 +15,7 @@ use Rattle.hurd_script.specs.Actions.{action_of}
 use Rattle.hurd_shell.specs.Programs.{Prog, gives}
 use Rattle.hurd_shell.specs.Commands.{prints, program_of}
 use Rattle.hurd_shell.specs.Stages.{answered_on, waiting_on}
-use Rattle.hurd_shell.specs.Transcript.{Dialogue, ends, tells, wants, dialogue, part_by, part_of, played, AsksFor}
+use Rattle.hurd_shell.specs.Transcript.{Dialogue, ends, tells, wants, dialogue, part_by, answer_to, played, AsksFor}
 use Rattle.hurd_shell.specs.contracts.phase.Phase as phase_code
 use Rattle.hurd_shell.specs.declared.phase.Phase.{Phase}
 use Rattle.hurd_shell.specs.declared.phase.Phase.TheVariants as phase
@@ -70,7 +71,7 @@ command_on phase.Failed c = gives (Ok (prints []))
 -- what is told of the commands that are left, of which the first is so far
 abbrev pub left_of : Phase → List CommandLine → World → Dialogue
 left_of phase [] w = ends
-left_of phase (c ∷ cs) w = played c.task (command_on phase c) w (λ r x. tells (part_by c (part_of c r) x) (dialogue cs x))
+left_of phase (c ∷ cs) w = played c.task (command_on phase c) w (λ r x. tells (part_by c (answer_to c r) x) (dialogue cs x))
 
 -- what a session has still to tell
 abbrev pub left_in : {S : Type 0} → (S → Meaning) → View S → Dialogue
@@ -97,11 +98,11 @@ pub record BegunWith {S : Type 0} (f : S → Meaning) (m : Meaning) (users : Lis
 abbrev pub Begun : {S : Type 0} → (S → Meaning) → Meaning → List ℕ → View S → Type 0
 Begun f m script s = BegunWith f m (users_of script) (commands_of script) s
 
--- a session gave this text: it is the next command's, and stands in front of what is left
-pub record Gives {S : Type 0} (f : S → Meaning) (old : View S) (text : List ℕ) (new : View S) : Type 0 where
+-- a session gave this answer: it is the next command's, before what is left
+pub record Gives {S : Type 0} (f : S → Meaning) (old : View S) (answer : Answer) (new : View S) : Type 0 where
   pub task : ℕ
   pub next : next_task old ≡ Some task
-  pub left : left_in f old ≡ tells (record { task = task; text = text; world = world_of f new.world }) (left_in f new)
+  pub left : left_in f old ≡ tells (record { task = task; answer = answer; world = world_of f new.world }) (left_in f new)
   pub fine : has_failed new ≡ false
   pub waits : waits_for new ≡ false
   pub given : new.given ≡ old.given + 1
@@ -109,7 +110,7 @@ pub record Gives {S : Type 0} (f : S → Meaning) (old : View S) (text : List �
 -- what a session gives its caller is the head of what it has to tell: a part, behind which the rest is left; the words of the server
 -- that is asked for, again at each call until that is answered; or the end. Memory may be refused, and then for good
 abbrev pub Tells : {S : Type 0} → (S → Meaning) → View S → Result Want SessionFault → View S → Type 0
-Tells f old (Ok (Output text)) new = Gives f old text new
+Tells f old (Ok (Output answer)) new = Gives f old answer new
 Tells f old (Ok (Server words)) new =
     (left_in f new ≡ left_in f old) × AsksFor (left_in f old) words × (has_failed new ≡ false) × (waits_for new ≡ true)
     × (next_task new ≡ next_task old) × (new.given ≡ old.given)

@@ -1,11 +1,10 @@
 -- What a transcript says.
-use Rattle.std.specs.Prelude.{◌≡◌, ℕ, ◌==◌, if◌then◌else◌, List, [], ◌∷◌, ◌++◌, Option, Some, None, Result, Ok, Err}
+use Rattle.std.specs.Prelude.{◌≡◌, ℕ, List, [], ◌∷◌, Option, Some, None, Result, Ok, Err, map}
 use Rattle.std.specs.List.{concat}
-use Rattle.hurd_creds.specs.Errors.{name_of}
 use Rattle.hurd_creds.specs.declared.errno.Errno.{Errno}
 use Rattle.hurd_trans_iface.specs.Meaning.{Meaning}
 use Rattle.hurd_machine.specs.World.{World}
-use Rattle.hurd_dialogue.specs.Parts.{Part, texts}
+use Rattle.hurd_dialogue.specs.Parts.{Part, answers}
 use Rattle.hurd_script.specs.Commands.{CommandLine}
 use Rattle.hurd_script.specs.Actions.{action_of}
 use Rattle.hurd_script.specs.Script.{users_of, commands_of}
@@ -14,25 +13,15 @@ use Rattle.hurd_world.specs.Boot.{first_world}
 use Rattle.hurd_shell.specs.declared.commands.Printed.{Printed}
 use Rattle.hurd_shell.specs.Programs.{Prog, gives, calls, asks}
 use Rattle.hurd_shell.specs.Commands.{program_of}
+use Rattle.hurd_words.specs.Answers.{plain}
+use Rattle.hurd_words.specs.declared.answers.Answer.{Answer}
+use Rattle.hurd_words.specs.declared.answers.Content.TheVariants.{Text}
+use Rattle.hurd_words.specs.declared.answers.Ending.TheVariants.{Refused}
 
--- output that isn't empty ends with a newline
-abbrev pub ended_lines : List ℕ → List ℕ
-ended_lines [] = []
-ended_lines (b ∷ []) = if b == 10 then b ∷ [] else b ∷ 10 ∷ []
-ended_lines (b ∷ c ∷ bs) = b ∷ ended_lines (c ∷ bs)
-
-abbrev pub refusal_line : Option Errno → List ℕ
-refusal_line None = []
-refusal_line (Some e) = name_of e ++ 10 ∷ []
-
--- what a command prints: its output, and the name of the error if a call was refused
-abbrev pub lines_of : Result Printed Errno → List ℕ
-lines_of (Ok printed) = ended_lines printed.output ++ refusal_line printed.refusal
-lines_of (Err e) = refusal_line (Some e)
-
--- a command's part of the transcript: its line, and what it prints
-abbrev pub part_of : CommandLine → Result Printed Errno → List ℕ
-part_of c r = c.header ++ lines_of r
+-- what a command is answered: to its line, what it put out and what ended it, or the refusal
+abbrev pub answer_to : CommandLine → Result Printed Errno → Answer
+answer_to c (Ok printed) = record { line = c.header; content = printed.output; ending = printed.ending }
+answer_to c (Err e) = record { line = c.header; content = Text []; ending = Refused e }
 
 -- what a script tells whoever runs it: parts, one after another, and servers that it asks for on the way, with what it tells after
 -- each answer
@@ -41,9 +30,9 @@ pub data Dialogue : Type 0 where
   tells : Part → Dialogue → Dialogue
   wants : List (List ℕ) → (Option Meaning → Dialogue) → Dialogue
 
--- the part of a command with this text, behind which this world is left
-abbrev pub part_by : CommandLine → List ℕ → World → Part
-part_by c text x = record { task = c.task; text = text; world = x }
+-- the part of a command with this answer, after which this world is left
+abbrev pub part_by : CommandLine → Answer → World → Part
+part_by c answer x = record { task = c.task; answer = answer; world = x }
 
 -- what is told while task t makes a program, and what comes of its end
 unfoldable pub played : {A : Type 0} → ℕ → Prog A → World → (Result A Errno → World → Dialogue) → Dialogue
@@ -54,16 +43,16 @@ played t (asks words k) w next = wants words (λ server. played t (k server) w n
 -- what is told of commands that are made one after another
 unfoldable pub dialogue : List CommandLine → World → Dialogue
 dialogue [] w = ends
-dialogue (c ∷ cs) w = played c.task (program_of (action_of c)) w (λ r x. tells (part_by c (part_of c r) x) (dialogue cs x))
+dialogue (c ∷ cs) w = played c.task (program_of (action_of c)) w (λ r x. tells (part_by c (answer_to c r) x) (dialogue cs x))
 
 -- what a script tells, begun over a boot server of this meaning
 abbrev pub dialogue_of : List ℕ → Meaning → Dialogue
 dialogue_of script m = dialogue (commands_of script) (first_world m (users_of script))
 
--- the texts that are told where the servers that are asked for are answered so, one after another: up to the first that has no answer yet
-unfoldable pub parts_of : Dialogue → List (Option Meaning) → List (List ℕ)
+-- the answers that are told if the servers that are asked for are answered so, one after another: up to the first server that has no answer yet
+unfoldable pub parts_of : Dialogue → List (Option Meaning) → List Answer
 parts_of ends says = []
-parts_of (tells part rest) says = part.text ∷ parts_of rest says
+parts_of (tells part rest) says = part.answer ∷ parts_of rest says
 parts_of (wants words rest) [] = []
 parts_of (wants words rest) (server ∷ says) = parts_of (rest server) says
 
@@ -81,7 +70,7 @@ AsksFor _ asked = ⊥
 
 -- the transcript of a script after these answers: the parts, joined
 abbrev pub out : List ℕ → Meaning → List (Option Meaning) → List ℕ
-out script m says = concat (parts_of (dialogue_of script m) says)
+out script m says = concat (map plain (parts_of (dialogue_of script m) says))
 
 -- a way to answer: the server that some words get, if any
 abbrev pub Maker : Type 0
@@ -99,10 +88,10 @@ told_by make ends = []
 told_by make (tells part rest) = part ∷ told_by make rest
 told_by make (wants words rest) = told_by make (rest (make words))
 
--- and their texts
-abbrev pub parts_by : Maker → Dialogue → List (List ℕ)
-parts_by make d = texts (told_by make d)
+-- and their answers
+abbrev pub parts_by : Maker → Dialogue → List Answer
+parts_by make d = answers (told_by make d)
 
 -- the whole transcript of a script whose servers a maker makes
 abbrev pub out_by : List ℕ → Meaning → Maker → List ℕ
-out_by script m make = concat (parts_by make (dialogue_of script m))
+out_by script m make = concat (map plain (parts_by make (dialogue_of script m)))

@@ -10,7 +10,8 @@ ghost use Rattle.hurd_shell.specs.Stages.{node_work_of};
 use crate::calls;
 use crate::fault::Stop;
 use hurd_creds::{Bytes, Errno, Mode, TaskId};
-use hurd_trans_iface::{Server, Words};
+use hurd_trans_iface::{Names, Server, Words};
+use hurd_words::answers::{Content, Ending};
 use hurd_words::printing::{stat_line, words_line};
 use hurd_world::World;
 use std::alloc::{AllocError, Global};
@@ -18,11 +19,11 @@ use std::alloc::{AllocError, Global};
 /// How many reads `cat` makes at most.
 const MOST_READS: u32 = 16;
 
-/// What a command prints, and the refusal that it ends with, if any.
+/// What a command puts out, and what ends it.
 #[derive(Debug, Drop)]
 pub(crate) struct Printed {
-    pub(crate) output: Bytes,
-    pub(crate) refusal: Option<Errno>,
+    pub(crate) output: Content,
+    pub(crate) ending: Ending,
 }
 
 /// What a command does with its open node, where it stops for nothing.
@@ -43,13 +44,43 @@ pub(crate) enum NodeWork {
     Rmdir(Bytes),
 }
 
-/// This output, and no refusal.
+/// This text is put out, and the command is done.
 pub(crate) fn prints(output: Vec<u8>) -> Printed
     ensures { result ≡ written.prints output.items }
 {
     Printed {
-        output: Bytes::new(output),
-        refusal: None,
+        output: Content::Text(Bytes::new(output)),
+        ending: Ending::Done,
+    }
+}
+
+/// These names are, each kept apart.
+fn lists(names: Names) -> Printed
+    ensures { result ≡ written.lists names }
+{
+    Printed {
+        output: Content::Names(names),
+        ending: Ending::Done,
+    }
+}
+
+/// This text is put out, and then a call is refused.
+pub(crate) fn refuses(output: Vec<u8>, errno: Errno) -> Printed
+    ensures { result ≡ written.refuses output.items errno }
+{
+    Printed {
+        output: Content::Text(Bytes::new(output)),
+        ending: Ending::Refused(errno),
+    }
+}
+
+/// The words of a command are not those that it has.
+pub(crate) fn misused(alloc: Global) -> Printed
+    ensures { result ≡ written.misused }
+{
+    Printed {
+        output: Content::Text(Bytes::new(Vec::new(alloc))),
+        ending: Ending::Usage,
     }
 }
 
@@ -73,12 +104,7 @@ fn cat<S: Server>(
                 }
                 output.extend_from_slice(bytes.as_slice())?;
             }
-            Err(Stop::Refused(errno)) => {
-                return Ok(Printed {
-                    output: Bytes::new(output),
-                    refusal: Some(errno),
-                });
-            }
+            Err(Stop::Refused(errno)) => return Ok(refuses(output, errno)),
             Err(Stop::Memory) => return Err(Stop::Memory),
         }
     }
@@ -92,27 +118,25 @@ fn is_shown(name: &Bytes) -> bool
     !name.is(b".") && !name.is(b"..")
 }
 
-/// Prints a name that is shown.
-fn add_line(lines: &mut Vec<u8>, name: &Bytes) -> Result<(), AllocError>
-    ensures { OnOk result ((rest : List (List ℕ)) → lines.new.items ++ written.as_lines (filter written.is_shown rest)
-        ≡ lines.old.items ++ written.as_lines (filter written.is_shown (name.now ∷ rest))) }
+/// Adds a name that is shown.
+fn add_shown(shown: &mut Names, name: Bytes) -> Result<(), AllocError>
+    ensures { OnOk result ((rest : List (List ℕ)) → shown.new ++ filter written.is_shown rest ≡ shown.old ++ filter written.is_shown (name ∷ rest)) }
 {
-    if is_shown(name) {
-        lines.extend_from_slice(name.as_slice())?;
-        lines.push(b'\n')?;
+    if is_shown(&name) {
+        shown.push(name)?;
     }
     Ok(())
 }
 
-/// The names that are shown, one a line.
-fn shown_lines(alloc: Global, names: &[Bytes]) -> Result<Vec<u8>, AllocError>
-    ensures { IfOk result (λ lines. lines.items ≡ written.as_lines (filter written.is_shown names.now)) }
+/// The names that are shown.
+fn shown_names(alloc: Global, names: Names) -> Result<Names, AllocError>
+    ensures { IfOk result (λ shown. shown ≡ filter written.is_shown names) }
 {
-    let mut lines = Vec::new(alloc);
-    for name in names {
-        add_line(&mut lines, name)?;
+    let mut shown = Names::new(alloc);
+    for name in names.into_vec() {
+        add_shown(&mut shown, name)?;
     }
-    Ok(lines)
+    Ok(shown)
 }
 
 /// `ls`: prints the names in a directory.
@@ -125,7 +149,7 @@ fn ls<S: Server>(
     ensures { Ran S.meaning task.0 (written.ls port) world.old result world.new }
 {
     let names = calls::names(world, alloc, task, port)?;
-    Ok(prints(shown_lines(alloc, names.as_slice())?))
+    Ok(lists(shown_names(alloc, names)?))
 }
 
 /// `ls -d`: prints what is told of a node.

@@ -51,7 +51,7 @@ pub enum SessionFault {
     #[error("hurd: line {line}: bad script")]
     BadScript { line: u64 },
     /// The world was refused.
-    #[error("hurd: cannot boot: {}", .0.name())]
+    #[error("hurd: cannot create the initial tree: {}", .0.name())]
     Boot(Errno),
     #[error("hurd: out of memory")]
     Memory,

@@ -11,7 +11,7 @@ ghost use Rattle.hurd_world.specs.Boot.{boot_of};
 ghost use Rattle.hurd_world.specs.Held.{state_of, world_of};
 ghost use Rattle.hurd_world.specs.Noting.{NotesWhatIsTouched};
 ghost use Rattle.hurd_shell.specs.Session.{Begun, BegunWith, waits_for, BeginFault, HangsTogether, NewFault, NotTaken, Takes, TakesUnlessFailed, Tells, command_on, has_failed, next_task};
-ghost use Rattle.hurd_shell.specs.Transcript.{Dialogue, part_by, part_of, played, tells};
+ghost use Rattle.hurd_shell.specs.Transcript.{Dialogue, part_by, answer_to, played, tells};
 ghost use Rattle.hurd_shell.specs.Turns.{Stands, turn_on};
 
 use crate::answers::{bring, go_without};
@@ -19,9 +19,10 @@ use crate::fault::{NoMemory, SessionFault, SupplyFault};
 use crate::phase::Phase;
 use crate::stages::{begin, resume};
 use crate::transcript::{Turn, told};
-use hurd_creds::{Bytes, Errno, TaskId};
+use hurd_creds::{Errno, TaskId};
 use hurd_script::{Command, Script, ScriptFault, parse_script};
 use hurd_trans_iface::{Server, Words};
+use hurd_words::answers::Answer;
 use hurd_world::World;
 use std::alloc::{AllocError, Global};
 use std::marker::Model;
@@ -30,8 +31,8 @@ use std::mem::replace;
 /// What a session gives its caller.
 #[derive(Debug, Drop)]
 pub enum Want {
-    /// One command's part of the transcript.
-    Output(Bytes),
+    /// What one command is answered.
+    Output(Answer),
     /// A server of these words is to be supplied, or none.
     Server(Words),
     /// All parts were given.
@@ -67,7 +68,7 @@ fn take_turn<S: Server>(
     phase: Phase,
 ) -> Result<Turn, AllocError>
     ensures ok { IfOk result (λ turn. (next : machine.World → Dialogue)
-        → played command.now.task (command_on phase command.now) (world_of S.meaning world.old) (λ r y. tells (part_by command.now (part_of command.now r) y) (next y))
+        → played command.now.task (command_on phase command.now) (world_of S.meaning world.old) (λ r y. tells (part_by command.now (answer_to command.now r) y) (next y))
         ≡ turn_on command.now next turn (world_of S.meaning world.new)) }
     ensures sound { Sound (world_of S.meaning world.old) → OnOk result (Sound (world_of S.meaning world.new)) }
     ensures noted { OnOk result (NotesWhatIsTouched (state_of S.meaning world.old) (state_of S.meaning world.new)) }
@@ -95,10 +96,10 @@ fn stand(
     ensures err { IfErr result (λ e. phase.new ≡ phase.old) }
 {
     match turn {
-        Turn::Told(part) => {
+        Turn::Told(answer) => {
             *given = made;
             *phase = Phase::Between;
-            Ok(Want::Output(part))
+            Ok(Want::Output(answer))
         }
         Turn::Waits(waiting) => {
             let words = waiting.words.copied(alloc)?;
@@ -191,7 +192,7 @@ impl<S: Server> Session<S> {
         }
     }
 
-    /// The next command's part of the transcript, `Server` with the words of a server that it waits for, until that is supplied
+    /// What the next command is answered, `Server` with the words of a server that it waits for, until that is supplied
     /// or refused, or `Done`, for good, after the last.
     ///
     /// `Memory`, from then on at every call, where memory was refused.

@@ -8,7 +8,7 @@ ghost use Rattle.hurd_shell.specs.Progress.{Arrived};
 ghost use Rattle.hurd_shell.specs.Stages.{answered_on, entry_work_of, progress_on, reached_on, work_of};
 
 use crate::calls;
-use crate::commands::{NodeWork, Printed, prints, work_on};
+use crate::commands::{NodeWork, Printed, misused, prints, work_on};
 use crate::entries::{EntryWork, work_at};
 use crate::fault::Stop;
 use crate::flags::{setting_of, to_change, to_control, to_enter, to_list, to_set, to_write};
@@ -430,7 +430,7 @@ pub(crate) fn begin<S: Server>(
             };
             with_open(world, alloc, task, node, to_set(flags), work)
         }
-        Action::Usage => Ok(Progress::Ended(prints(Vec::from_slice(alloc, b"usage\n")?))),
+        Action::Usage => Ok(Progress::Ended(misused(alloc))),
     }
 }
 

@@ -7,7 +7,8 @@ use Rattle.hurd_machine.specs.World.{World}
 use Rattle.hurd_sight.specs.Reach.{among}
 use Rattle.hurd_views.specs.declared.view.View.{View}
 use Rattle.hurd_dialogue.specs.Parts.{Part, world_behind}
-use Rattle.hurd_calls.specs.Making.{after_call, part_of, parts_of}
+use Rattle.hurd_calls.specs.Making.{after_call, answer_to, parts_of}
+use Rattle.hurd_words.specs.Answers.{plain}
 use Rattle.hurd_words.specs.Turns.{paragraph}
 use Rattle.hurd_lessons.specs.Told.{Lesson, Said}
 use Rattle.hurd_teaching.specs.Learners.{is_quiet}
@@ -48,7 +49,7 @@ module _ (l : Learners) where
   lessons_apart n w [] qs xs ys none later = rw none (anywhere 0 n w qs ys later, refl)
   lessons_apart n w (p ∷ ps) qs xs ys (text, shown, more, is, lesson, shows, rest) later =
       let both = lessons_apart (n + 1) p.world ps qs more ys rest later in
-      let here = paragraph p.text (text ++ shown) in
+      let here = paragraph p.answer (text ++ shown) in
       rw is (
         (text, shown, more ++ ys, refl, lesson, shows, both.0),
         ap (λ (bs : List ℕ). here ++ bs) both.1 ∙ sym (append_assoc here (told_text ps more) (told_text qs ys)),
@@ -74,12 +75,12 @@ none_tells None w = sym (none_told w)
 none_tells (Some l) w = ([], refl, refl)
 
 -- one call tells its part
-pub part_tells : (c : Listed) (w : World) (text : List ℕ) → text ≡ part_of c w → Tells None (c ∷ []) w text
+pub part_tells : (c : Listed) (w : World) (text : List ℕ) → text ≡ plain (answer_to c w) → Tells None (c ∷ []) w text
 part_tells c w text is = is ∙ sym (one_told c w)
 
 -- or its paragraph, with what these learn of it
 pub paragraph_tells : (l : Learners) (c : Listed) (w x : World) (quiet : Bool) (before after : Option View) (said text : List ℕ) → quiet ≡ among l.tasks.items c.task.0
-    → (quiet ≡ false → Sees l.tasks.items w before) → x ≡ after_call c w → SaysOf l.tasks.items l.who.items quiet x before after said → text ≡ paragraph (part_of c w) (said ++ [])
+    → (quiet ≡ false → Sees l.tasks.items w before) → x ≡ after_call c w → SaysOf l.tasks.items l.who.items quiet x before after said → text ≡ paragraph (answer_to c w) (said ++ [])
     → Tells (Some l) (c ∷ []) w text
 unfolding parts_of
 paragraph_tells l c w x quiet before after said text is sees made says prints =
@@ -95,5 +96,5 @@ paragraph_tells l c w x quiet before after said text is sees made says prints =
         refl,
         refl,
       ),
-      prints ∙ sym (append-nil (paragraph (part_of c w) (said ++ []))),
+      prints ∙ sym (append-nil (paragraph (answer_to c w) (said ++ []))),
     )

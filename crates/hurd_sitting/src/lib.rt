@@ -4,7 +4,7 @@
 //! a further text, which has no tasks, and `Sitting::told` is what the last text told: each call's line and reply, as `hurd run --calls` prints it.
 //! A call of a task that isn't there is no fault: its reply is ESRCH.
 //!
-//! `Sitting::watch` names tasks. From then on `make` tells what these learn behind each call of others, as `hurd learns --calls` prints it, without its last line.
+//! `Sitting::watch` names tasks. From then on `make` adds, after each call by others, what these learn from it, as `hurd learn --calls` prints it, without its last line.
 //!
 //! Texts that are made one after another tell what one list of their calls tells, and leave the same world: `calls_are_one` says it of calls, `texts_are_one`
 //! of the bytes of a list and of a text behind it.

@@ -4,32 +4,33 @@ ghost use Rattle.std.specs.Option.{option_map};
 ghost use Rattle.hurd_kinds.specs.Boxes.{box_meaning};
 ghost use Rattle.hurd_lists.specs.Lists.{listed_by};
 ghost use Rattle.hurd_world.specs.Held.{world_of};
-ghost use Rattle.hurd_calls.specs.Making.{after_call, part_of};
+ghost use Rattle.hurd_calls.specs.Making.{after_call, answer_to};
 ghost use Rattle.hurd_teaching.specs.Watched.{SeenOf};
 ghost use Rattle.hurd_sitting.specs.Sittings.{Adds, SomeMade, Tells, behind, listed};
 ghost use Rattle.hurd_sitting.specs.Watching.{SeenBy};
 
-use hurd_calls::{brought, part};
+use hurd_calls::{answer, brought};
 use hurd_creds::Bytes;
 use hurd_kinds::ServerBox;
 use hurd_lists::ListedCall;
 use hurd_teaching::{Learners, Watch, look_before, paragraph, said};
+use hurd_words::answers::Answer;
 use hurd_world::World;
 use std::alloc::{AllocError, Global};
 
-/// Makes a call with the server that it brings, and gives what is printed of it. An error is want of memory: then the call was made, or nothing changed.
+/// Makes a call with the server that it brings, and gives its answer. Fails only if memory runs out: then the call was made, or nothing changed.
 fn made(
     world: &mut World<ServerBox>,
     alloc: Global,
     listed: ListedCall<ServerBox>,
-) -> Result<Bytes, AllocError>
-    ensures part { IfOk result (λ part. part ≡ part_of (listed_by box_meaning listed) (world_of box_meaning world.old)) }
+) -> Result<Answer, AllocError>
+    ensures answer { IfOk result (λ answer. answer ≡ answer_to (listed_by box_meaning listed) (world_of box_meaning world.old)) }
     ensures world { OnOk result (world_of box_meaning world.new ≡ after_call (listed_by box_meaning listed) (world_of box_meaning world.old)) }
     ensures err { IfErr result (λ _. (world_of box_meaning world.new ≡ world_of box_meaning world.old)
         ⊎ (world_of box_meaning world.new ≡ after_call (listed_by box_meaning listed) (world_of box_meaning world.old))) }
 {
     let server = brought(alloc, &listed.server)?;
-    part(world, alloc, listed, server)
+    answer(world, alloc, listed, server)
 }
 
 /// Makes a call, and gives its paragraph: what is printed of it, and what these learn by it where it is another's. An error is want of memory: then the call
@@ -50,10 +51,10 @@ fn paragraph_of(
 {
     let quiet = learners.have(listed.task);
     look_before(alloc, world, learners, watch, quiet)?;
-    let part = made(world, alloc, listed)?;
+    let answer = made(world, alloc, listed)?;
     let said = said(alloc, world, learners, watch, quiet)?;
     let shown = Bytes::new(Vec::new(alloc));
-    paragraph(alloc, &part, &said, &shown)
+    paragraph(alloc, &answer, &said, &shown)
 }
 
 /// Makes a call, and gives what it tells: its paragraph where some are told what they learn. An error is want of memory: then the call was made, or nothing
@@ -74,7 +75,7 @@ fn text_of(
 {
     match learners {
         Some(learners) => paragraph_of(world, alloc, listed, learners, watch),
-        None => Ok(made(world, alloc, listed)?.into_vec()),
+        None => made(world, alloc, listed)?.plain(alloc),
     }
 }
 

@@ -92,7 +92,7 @@ impl Sitting {
     }
 
     /// What the last text told: each call's line and reply, as `hurd run --calls` prints it. Where tasks were watched, a paragraph for each, as
-    /// `hurd learns --calls` prints it.
+    /// `hurd learn --calls` prints it.
     pub fn told(&self) -> &[u8]
         ensures { result.now ≡ told_in self.now }
     {

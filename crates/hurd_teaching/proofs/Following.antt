@@ -33,7 +33,7 @@ module _ (tasks : List TaskId) (who : Speech) (n : ℕ) (w : World) where
   some_part : (old : Way) (now later : Option (List ℕ)) → old.told ≡ n → old.world ≡ w → StopsAt tasks who old now later → ToldSome tasks who n w old.left now later
   some_part old now later count here (inl same) = rw same (some_none old.left now)
   some_part old now later count here (inr (p, rest, is, text, shown, lesson, shows, front)) =
-      let this = paragraph p.text (text ++ shown) in
+      let this = paragraph p.answer (text ++ shown) in
       record {
         first = p ∷ [];
         left = rest;
@@ -45,7 +45,7 @@ module _ (tasks : List TaskId) (who : Speech) (n : ℕ) (w : World) where
 
   module _ (p : Part) (kept : Option View) (tally count : Tally) (now later : Option (List ℕ)) (told : IsTold tasks who n w p tally now kept count later) where
     abbrev this : List ℕ
-    this = paragraph p.text (told.said ++ told.shown)
+    this = paragraph p.answer (told.said ++ told.shown)
 
     abbrev here_said : Said
     here_said = said_here p told.said told.shown

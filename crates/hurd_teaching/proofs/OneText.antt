@@ -5,7 +5,8 @@ use Rattle.std.proofs.lemmas.List.{map-append}
 use Rattle.std.proofs.lemmas.Option.{same_Some}
 use Rattle.hurd_creds.specs.declared.name.TaskId.{TaskId}
 use Rattle.hurd_machine.specs.World.{World}
-use Rattle.hurd_dialogue.specs.Parts.{Part, texts}
+use Rattle.hurd_dialogue.specs.Parts.{Part, answers}
+use Rattle.hurd_words.specs.declared.answers.Answer.{Answer}
 use Rattle.hurd_dialogue.specs.Sorts.{Sort, last_world}
 use Rattle.hurd_words.specs.Turns.{paragraph}
 use Rattle.hurd_lessons.specs.Told.{Said, last_line, printed, tally_from}
@@ -25,7 +26,7 @@ shows_is_one tasks sees true x s t (a, in_a, is_s) (b, in_b, is_t) = is_s ∙ (s
 shows_is_one tasks sees false x s t is_s is_t = is_s ∙ sym is_t
 
 -- of first parts, with what is said behind first ones, a front is printed of what is printed of all
-printed_front : (ps qs : List (List ℕ)) (xs ys : List Said) → IsFront (printed ps xs) (printed (ps ++ qs) (xs ++ ys))
+printed_front : (ps qs : List Answer) (xs ys : List Said) → IsFront (printed ps xs) (printed (ps ++ qs) (xs ++ ys))
 printed_front [] qs xs ys = (printed qs (xs ++ ys), refl)
 printed_front (p ∷ ps) qs [] ys = (printed (p ∷ (ps ++ qs)) ys, refl)
 printed_front (p ∷ ps) qs (x ∷ xs) ys =
@@ -107,11 +108,11 @@ module _ (thing : List ℕ) (w : World) (parts : List Part) (l m : Learners) (a 
   some_front : (f : List ℕ) (t : List Said) → FrontOfSome l w parts f → LessonsOf l.tasks.items (speech l) 0 w parts t → IsFront f (told_text parts t)
   some_front f t some y =
       let it = lessons_front l.tasks.items (speech l) 0 w some.first some.left some.said t some.lessons (subst (λ (ps : List Part). LessonsOf l.tasks.items (speech l) 0 w ps t) some.split y) in
-      let more = printed_front (texts some.first) (texts some.left) some.said it.0 in (
+      let more = printed_front (answers some.first) (answers some.left) some.said it.0 in (
         some.front.0 ++ more.0,
         ap (λ (ps : List Part). told_text ps t) some.split
-            ∙ (ap (λ (ps : List (List ℕ)). printed ps t) (map-append (λ (p : Part). p.text) some.first some.left)
-            ∙ (ap (printed (texts some.first ++ texts some.left)) it.1 ∙ (more.1 ∙ (ap (λ (u : List ℕ). u ++ more.0) some.front.1 ∙ append_assoc f some.front.0 more.0)))),
+            ∙ (ap (λ (ps : List Answer). printed ps t) (map-append (λ (p : Part). p.answer) some.first some.left)
+            ∙ (ap (printed (answers some.first ++ answers some.left)) it.1 ∙ (more.1 ∙ (ap (λ (u : List ℕ). u ++ more.0) some.front.1 ∙ append_assoc f some.front.0 more.0)))),
       )
 
   front_once : (s t : List ℕ) → Front l thing w parts s → Whole m thing w parts t → IsFront s t

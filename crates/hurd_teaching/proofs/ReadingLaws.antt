@@ -4,14 +4,15 @@ use Rattle.std.proofs.lemmas.Bool.{cases_Bool, eqb-true, not_from_false}
 use Rattle.std.proofs.lemmas.List.{append_cancel_left}
 use Rattle.hurd_creds.specs.declared.name.TaskId.{TaskId}
 use Rattle.hurd_words.specs.Sentences.{is_letter, sentence_lines}
-use Rattle.hurd_words.specs.Turns.{AreApart, AreSaid, Turn, is_line, paragraph, turns_text}
+use Rattle.hurd_words.specs.Turns.{AreApart, AreSaid, Turn, TurnsAlike, is_line, paragraph, turns_text}
+use Rattle.hurd_words.specs.declared.answers.Answer.{Answer}
 use Rattle.hurd_words.proofs.Bytes.{all_both, all_weaker, first_same, is_other}
 use Rattle.hurd_words.proofs.ReadsBack.{reads_back}
 use Rattle.hurd_words.proofs.WordLaws.{decimal_is_word}
 use Rattle.hurd_lessons.specs.Told.{Said, last_line, of_others, printed}
 use Rattle.hurd_lessons.specs.declared.tally.Tally.{Tally}
 use Rattle.hurd_teaching.specs.Learners.{see_of, verb_of}
-use Rattle.hurd_teaching.specs.Reading.{AreSentences, ReadBack, Reading, read_of}
+use Rattle.hurd_teaching.specs.Reading.{AreSentences, ReadBack, ReadingsAlike, read_of}
 
 -- what is learned and what is seen are told apart
 
@@ -27,7 +28,7 @@ apart tasks names s t is =
 -- the last line, without its newline
 
 abbrev others_of : ℕ → List ℕ
-others_of n = if n == 1 then codes " of others" else codes "s of others"
+others_of n = if n == 1 then codes " by others" else codes "s by others"
 
 abbrev line_of : List ℕ → List ℕ → Tally → List ℕ
 line_of names thing t = names ++ (codes " learned from " ++ (decimal t.taught ++ (codes " of " ++ (decimal t.others ++ (thing ++ others_of t.others)))))
@@ -35,7 +36,7 @@ line_of names thing t = names ++ (codes " learned from " ++ (decimal t.taught ++
 others_end : (n : ℕ) → of_others n ≡ others_of n ++ 10 ∷ []
 others_end n = go (n == 1)
   where
-    go : (b : Bool) → (if b then codes " of others\n" else codes "s of others\n") ≡ (if b then codes " of others" else codes "s of others") ++ 10 ∷ []
+    go : (b : Bool) → (if b then codes " by others\n" else codes "s by others\n") ≡ (if b then codes " by others" else codes "s by others") ++ 10 ∷ []
     go true = refl
     go false = refl
 
@@ -61,7 +62,7 @@ number_line n = all_weaker is_letter (is_other 10) no_newline (decimal n) (decim
 others_line : (n : ℕ) → is_line (others_of n) ≡ true
 others_line n = go (n == 1)
   where
-    go : (b : Bool) → is_line (if b then codes " of others" else codes "s of others") ≡ true
+    go : (b : Bool) → is_line (if b then codes " by others" else codes "s by others") ≡ true
     go true = refl
     go false = refl
 
@@ -88,29 +89,38 @@ module _ (tasks : List TaskId) (names : List ℕ) where
   sees = names ++ see_of tasks
 
   -- what is printed, as turns
-  abbrev turns_of : (ps : List (List ℕ)) (xs : List Said) → AreSentences tasks names xs → List Turn
+  abbrev turns_of : (ps : List Answer) (xs : List Said) → AreSentences tasks names xs → List Turn
   turns_of [] xs s = []
   turns_of (p ∷ ps) [] s = []
-  turns_of (p ∷ ps) (x ∷ xs) s = record { part = p; learned = s.0.0; seen = s.1.0 } ∷ turns_of ps xs s.2
+  turns_of (p ∷ ps) (x ∷ xs) s = record { answer = p; learned = s.0.0; seen = s.1.0 } ∷ turns_of ps xs s.2
 
-  are_said : (ps : List (List ℕ)) (xs : List Said) (s : AreSentences tasks names xs) → AreSaid (turns_of ps xs s)
+  are_said : (ps : List Answer) (xs : List Said) (s : AreSentences tasks names xs) → AreSaid (turns_of ps xs s)
   are_said [] xs s = tt
   are_said (p ∷ ps) [] s = tt
   are_said (p ∷ ps) (x ∷ xs) s = (s.0.1, s.1.1, are_said ps xs s.2)
 
-  same_text : (ps : List (List ℕ)) (xs : List Said) (s : AreSentences tasks names xs) → printed ps xs ≡ turns_text learns sees (turns_of ps xs s)
+  same_text : (ps : List Answer) (xs : List Said) (s : AreSentences tasks names xs) → printed ps xs ≡ turns_text learns sees (turns_of ps xs s)
   same_text [] xs s = refl
   same_text (p ∷ ps) [] s = refl
   same_text (p ∷ ps) (x ∷ xs) s = λ i. paragraph p (s.0.2 i ++ s.1.2 i) ++ same_text ps xs s.2 i
 
-  -- what is read of turns
-  abbrev read_turn : Turn → Reading
-  read_turn t = record { part = t.part; learned = sentence_lines learns t.learned; seen = sentence_lines sees t.seen }
-
-  same_reading : (ps : List (List ℕ)) (xs : List Said) (s : AreSentences tasks names xs) → read_of ps xs ≡ map read_turn (turns_of ps xs s)
-  same_reading [] xs s = refl
-  same_reading (p ∷ ps) [] s = refl
-  same_reading (p ∷ ps) (x ∷ xs) s = λ i. record { part = p; learned = s.0.2 i; seen = s.1.2 i } ∷ same_reading ps xs s.2 i
+  -- turns that are alike are read alike
+  turns_read : (ps qs : List Answer) (xs ys : List Said) (s : AreSentences tasks names xs) (t : AreSentences tasks names ys)
+      → TurnsAlike (turns_of ps xs s) (turns_of qs ys t) → ReadingsAlike (read_of ps xs) (read_of qs ys)
+  turns_read [] [] xs ys s t alike = tt
+  turns_read [] (q ∷ qs) xs [] s t alike = tt
+  turns_read [] (q ∷ qs) xs (y ∷ ys) s t alike = absurd alike
+  turns_read (p ∷ ps) [] [] ys s t alike = tt
+  turns_read (p ∷ ps) [] (x ∷ xs) ys s t alike = absurd alike
+  turns_read (p ∷ ps) (q ∷ qs) [] [] s t alike = tt
+  turns_read (p ∷ ps) (q ∷ qs) [] (y ∷ ys) s t alike = absurd alike
+  turns_read (p ∷ ps) (q ∷ qs) (x ∷ xs) [] s t alike = absurd alike
+  turns_read (p ∷ ps) (q ∷ qs) (x ∷ xs) (y ∷ ys) s t alike = (
+    alike.0,
+    s.0.2 ∙ (ap (sentence_lines learns) alike.1 ∙ sym t.0.2),
+    s.1.2 ∙ (ap (sentence_lines sees) alike.2 ∙ sym t.1.2),
+    turns_read ps qs xs ys s.2 t.2 alike.3,
+  )
 
 pub read_back : ReadBack
 read_back tasks names thing ps qs xs ys t u n g a b is =
@@ -118,10 +128,10 @@ read_back tasks names thing ps qs xs ys t u n g a b is =
     reads_back (learns tasks names) (sees tasks names) (turns_of tasks names ps xs a) (turns_of tasks names qs ys b) (line_of names thing t) (line_of names thing u) (apart tasks names)
     (are_said tasks names ps xs a) (are_said tasks names qs ys b) (line_is_line names thing t n g) (line_is_line names thing u n g)
     (sym (laid ps xs a t) ∙ (is ∙ laid qs ys b u)) in (
-      same_reading tasks names ps xs a ∙ (ap (map (read_turn tasks names)) both.0 ∙ sym (same_reading tasks names qs ys b)),
+      turns_read tasks names ps qs xs ys a b both.0,
       line_end names thing t ∙ (ap (λ (l : List ℕ). l ++ 10 ∷ []) both.1 ∙ sym (line_end names thing u)),
     )
   where
-    laid : (rs : List (List ℕ)) (zs : List Said) (s : AreSentences tasks names zs) (v : Tally)
+    laid : (rs : List Answer) (zs : List Said) (s : AreSentences tasks names zs) (v : Tally)
         → printed rs zs ++ last_line names thing v ≡ turns_text (learns tasks names) (sees tasks names) (turns_of tasks names rs zs s) ++ (line_of names thing v ++ 10 ∷ [])
     laid rs zs s v = λ i. same_text tasks names rs zs s i ++ line_end names thing v i

@@ -4,6 +4,7 @@ use Rattle.std.specs.Prelude.{if◌then◌else◌}
 use Rattle.std.specs.Io.KnownBytes.{Appends}
 use Rattle.hurd_creds.specs.declared.name.TaskId.{TaskId}
 use Rattle.hurd_machine.specs.World.{World}
+use Rattle.hurd_words.specs.declared.answers.Answer.{Answer}
 use Rattle.hurd_dialogue.specs.Parts.{Goes, Part, Way, next_task}
 use Rattle.hurd_views.specs.declared.view.View.{View}
 use Rattle.hurd_words.specs.Turns.{paragraph}
@@ -39,11 +40,11 @@ module _ (tasks : List TaskId) (who : Speech) where
   kept_here x false before after text says = rw says.kept says.sees
 
   -- the next part was told by this text; what is said and shown behind it
-  module _ (old new : Way) (part : List ℕ) (goes : Goes old (Some part) new) (quiet : Bool) (before after : Option View) (text shown : List ℕ)
+  module _ (old new : Way) (part : Answer) (goes : Goes old (Some part) new) (quiet : Bool) (before after : Option View) (text shown : List ℕ)
       (is : quiet ≡ is_next_quiet tasks who.from old.told (next_task old.left)) (sees : quiet ≡ false → Sees tasks old.world before)
       (says : SaysOf tasks who.learns quiet new.world before after text) (shows : Shows tasks who.sees (is_due who.looks new.told) new.world shown) where
     abbrev this : Part
-    this = record { task = goes.0; text = part; world = new.world }
+    this = record { task = goes.0; answer = part; world = new.world }
 
     same_quiet : quiet ≡ is_quiet tasks who.from old.told goes.0
     same_quiet = is ∙ ap (λ (ps : List Part). is_next_quiet tasks who.from old.told (next_task ps)) goes.1

@@ -2,7 +2,7 @@
 use Rattle.std.specs.Prelude.{◌≡◌, ℕ, ◌+◌, not, List, [], ◌∷◌, ◌++◌}
 use Rattle.hurd_creds.specs.declared.name.TaskId.{TaskId}
 use Rattle.hurd_machine.specs.World.{World}
-use Rattle.hurd_dialogue.specs.Parts.{Part, texts}
+use Rattle.hurd_dialogue.specs.Parts.{Part, answers}
 use Rattle.hurd_lessons.specs.Told.{Lesson, Said, printed}
 use Rattle.hurd_teaching.specs.Learners.{Speech, is_quiet, see_of, verb_of}
 use Rattle.hurd_teaching.specs.Looks.{is_due}
@@ -22,7 +22,7 @@ LessonsOf tasks who made w (p ∷ ps) said =
 
 -- a paragraph for each part, with what is said and shown behind it
 abbrev pub told_text : List Part → List Said → List ℕ
-told_text parts said = printed (texts parts) said
+told_text parts said = printed (answers parts) said
 
 -- what is said and shown behind parts is sentences, so that outputs can be read back
 abbrev pub LessonsAreSentences : Type 0

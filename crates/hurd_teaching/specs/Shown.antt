@@ -26,7 +26,7 @@ pub record IsTold (tasks : List TaskId) (who : Speech) (made : ℕ) (w : World) 
   pub seen : SeenOf tasks p.world kept
   pub lesson : Lesson tasks who.learns (is_quiet tasks who.from made p.task) w p.world said
   pub shows : Shows tasks who.sees (is_due who.looks (made + 1)) p.world shown
-  pub appends : Appends before after (paragraph p.text (said ++ shown))
+  pub appends : Appends before after (paragraph p.answer (said ++ shown))
   pub counts : count ≡ (if is_quiet tasks who.from made p.task then tally else counted tally said)
 
 -- what comes of a step: a part is told, and the rest is left; or there was none
@@ -40,7 +40,7 @@ abbrev pub StopsAt : List TaskId → Speech → Way → Option (List ℕ) → Op
 StopsAt tasks who old before after =
     (after ≡ before) ⊎ ((p : Part) × (rest : List Part) × (old.left ≡ p ∷ rest)
     × (said shown : List ℕ) × Lesson tasks who.learns (is_quiet tasks who.from old.told p.task) old.world p.world said
-    × Shows tasks who.sees (is_due who.looks (old.told + 1)) p.world shown × AppendsFront before after (paragraph p.text (said ++ shown)))
+    × Shows tasks who.sees (is_due who.looks (old.told + 1)) p.world shown × AppendsFront before after (paragraph p.answer (said ++ shown)))
 
 -- all parts were told and printed, each with what is said behind it, and that was counted
 pub record ToldAll (tasks : List TaskId) (who : Speech) (made : ℕ) (w : World) (parts : List Part) (tally : Tally) (before : Option (List ℕ)) (count : Tally) (after : Option (List ℕ)) : Type 0 where

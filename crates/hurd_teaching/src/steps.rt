@@ -68,14 +68,14 @@ fn step<T: Telling, W: Write>(
         × StopsAt learners.now.tasks.items (speech learners.now) (T.way telling.old) (W.contents output.old.writer) (W.contents output.new.writer)) }
 {
     let quiet = looked(alloc, telling, learners, watch)?;
-    let Some(part) = telling.next(alloc)? else {
+    let Some(answer) = telling.next(alloc)? else {
         return Ok(false);
     };
     let unmoved = !quiet && watch.misses(telling.noted());
     let said = said_if_moved(alloc, telling.world(), learners, watch, quiet, unmoved)?;
     let asked = learners.are_shown(telling.told());
     let shown = shown(alloc, telling.world(), learners, asked)?;
-    print_all(alloc, &part, &said, &shown, output)?;
+    print_all(alloc, &answer, &said, &shown, output)?;
     *tally = counted(*tally, quiet, &said);
     Ok(true)
 }

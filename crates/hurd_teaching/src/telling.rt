@@ -15,6 +15,7 @@ use hurd_creds::Bytes;
 use hurd_lessons::{Tally, seen};
 use hurd_terminal::{Fault, Output};
 use hurd_trans_iface::Server;
+use hurd_words::answers::Answer;
 use hurd_words::marks::push_marked;
 use hurd_world::World;
 use std::alloc::{AllocError, Global};
@@ -102,37 +103,37 @@ pub(crate) fn counted(tally: Tally, quiet: bool, said: &Bytes) -> Tally
     if quiet { tally } else { tally.count(said) }
 }
 
-/// A paragraph: a part, what is said behind it, and what is shown behind that. An error is want of memory.
+/// A paragraph: an answer, what is said after it, and what is shown after that. Fails only if memory runs out.
 pub fn paragraph(
     alloc: Global,
-    part: &Bytes,
+    answer: &Answer,
     said: &Bytes,
     shown: &Bytes,
 ) -> Result<Vec<u8>, AllocError>
-    ensures { IfOk result (λ text. text.items ≡ paragraph part.now (said.now ++ shown.now)) }
+    ensures { IfOk result (λ text. text.items ≡ paragraph answer.now (said.now ++ shown.now)) }
 {
     let mut text = Vec::new(alloc);
-    push_marked(&mut text, part.as_slice())?;
+    push_marked(&mut text, answer)?;
     text.extend_from_slice(said.as_slice())?;
     text.extend_from_slice(shown.as_slice())?;
     text.push(b'\n')?;
     Ok(text)
 }
 
-/// Prints a paragraph: a part, what is said behind it, and what is shown behind that.
+/// Prints a paragraph: an answer, what is said after it, and what is shown after that.
 ///
 /// `Write`: then only some first bytes were printed; `Memory`, and then nothing was.
 pub(crate) fn print_all<W: Write>(
     alloc: Global,
-    part: &Bytes,
+    answer: &Answer,
     said: &Bytes,
     shown: &Bytes,
     output: &mut Output<W>,
 ) -> Result<(), Fault>
-    ensures ok { OnOk result (Appends (W.contents output.old.writer) (W.contents output.new.writer) (paragraph part.now (said.now ++ shown.now))) }
+    ensures ok { OnOk result (Appends (W.contents output.old.writer) (W.contents output.new.writer) (paragraph answer.now (said.now ++ shown.now))) }
     ensures err { IfErr result (λ fault. IsPrintFault output.new fault
-        × AppendsFront (W.contents output.old.writer) (W.contents output.new.writer) (paragraph part.now (said.now ++ shown.now))) }
+        × AppendsFront (W.contents output.old.writer) (W.contents output.new.writer) (paragraph answer.now (said.now ++ shown.now))) }
 {
-    let text = paragraph(alloc, part, said, shown)?;
+    let text = paragraph(alloc, answer, said, shown)?;
     output.print(text.as_slice())
 }

@@ -17,7 +17,7 @@ status_of (Err _) = 2
 
 -- what stands behind the name of a file whose world is refused
 abbrev pub refusal_by : Errno → List ℕ
-refusal_by e = codes ": cannot boot: " ++ name_of e ++ codes "\n"
+refusal_by e = codes ": cannot create the initial tree: " ++ name_of e ++ codes "\n"
 
 -- a line of a file: its name, and this behind it
 abbrev pub of_file : List ℕ → List ℕ → List ℕ

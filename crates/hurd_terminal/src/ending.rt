@@ -28,7 +28,7 @@ fn joined(first: &str, second: &str, third: &str) -> ArrayString<TAIL_BYTES>
 fn refusal_by(errno: Errno) -> ArrayString<TAIL_BYTES>
     ensures { result.bytes ≡ refusal_by errno }
 {
-    joined(": cannot boot: ", errno.name(), "\n")
+    joined(": cannot create the initial tree: ", errno.name(), "\n")
 }
 
 /// Prints a line of a file: its name, and a tail behind it.

@@ -6,3 +6,4 @@ pub mod FindingLaws
 pub mod WitnessLaws
 pub mod OneFinding
 pub mod ChildLaws
+pub mod ShownLaws

@@ -1,10 +1,13 @@
--- How those who learn something could be told it: a command of theirs that is answered otherwise before and behind what was done.
+-- How those who learn something could find it out: a command of theirs that gets a different reply before and after what was done.
 use Rattle.std.specs.Prelude.{◌≡◌, ℕ, ◌+◌, ◌-◌, ◌==◌, List, [], ◌∷◌, ◌++◌, Option, Some, None, bytes_eq, codes, decimal, drop, if◌then◌else◌, length, slice_get, take}
 use Rattle.std.specs.List.{slice_split}
 use Rattle.std.specs.Option.{option_or}
 use Rattle.hurd_dialogue.specs.Sorts.{Sort}
 use Rattle.hurd_words.specs.Lines.{is_skipped, lines_of}
-use Rattle.hurd_witnesses.specs.Answers.{answer_of, shown_answer, unended}
+use Rattle.hurd_words.specs.Marks.{marked}
+use Rattle.hurd_words.specs.Printing.{text_if}
+use Rattle.hurd_words.specs.declared.answers.Answer.{Answer}
+use Rattle.hurd_witnesses.specs.Answers.{answer_of, first_difference, marks_of, shown_answer, unended}
 use Rattle.hurd_witnesses.specs.Trials.{head_of, part_at, trials_of}
 use Rattle.hurd_witnesses.specs.declared.hunt.Hunt.{Hunt}
 use Rattle.hurd_witnesses.specs.declared.witness.Witness.{Witness}
@@ -27,9 +30,9 @@ said_of (line ∷ lines) = if is_skipped line then said_of lines else line ∷ s
 
 -- WITNESSES
 
--- a trial that is answered twice, and otherwise, is a witness
-abbrev pub told_apart : List ℕ → Option (List ℕ) → Option (List ℕ) → Option Witness
-told_apart trial (Some s) (Some t) = if bytes_eq s t then None else Some (record { trial = trial; before = s; behind = t })
+-- a trial that gets two replies, of which what is printed with marks is not the same, is a witness
+abbrev pub told_apart : List ℕ → Option Answer → Option Answer → Option Witness
+told_apart trial (Some s) (Some t) = if bytes_eq (marked s) (marked t) then None else Some (record { trial = trial; before = s; after = t })
 told_apart trial _ _ = None
 
 -- the same of a line that is added to two texts
@@ -54,17 +57,29 @@ text_before h made = h.front ++ text_of (take made h.commands.items)
 abbrev pub witness_by : Sort → Hunt → ℕ → List (List ℕ) → Option Witness
 witness_by sort h made trials = witness_at sort (text_before h made) (slice_get h.commands.items made) trials
 
--- a line with what stands in front of it
+-- a line after its label
 abbrev pub labelled : List ℕ → List ℕ → List ℕ
 labelled label said = label ++ (said ++ codes "\n")
 
--- what is said of one: `    by alice cat /motd`, and each answer on a line of its own, `      before: ENOENT` and `      behind: Welcome`; or how many commands were tried where there is none
+-- from which byte on two replies differ
+unfoldable pub place_text : ℕ → List ℕ
+place_text place = codes "      differ: from byte " ++ (decimal place ++ codes " on\n")
+
+-- the same where both are shown alike, since they differ after what is shown
+abbrev pub differ_text : Answer → Answer → List ℕ
+differ_text a b = text_if (bytes_eq (shown_answer a) (shown_answer b)) (place_text (first_difference (marks_of a.content) (marks_of b.content)))
+
+-- both replies, each on a line of its own
+unfoldable pub replies_text : Answer → Answer → List ℕ
+replies_text a b = labelled (codes "      before: ") (shown_answer a) ++ (labelled (codes "      after:  ") (shown_answer b) ++ differ_text a b)
+
+-- what is said of one: `    try alice cat /motd`, and both replies, `      before: ! ENOENT` and `      after:  Welcome\n`; or how many commands were tried if there is none
 abbrev pub no_witness_text : ℕ → List ℕ
-no_witness_text tried = if tried == 0 then codes "    by no command on a path\n" else codes "    by none of " ++ (decimal tried ++ codes " commands\n")
+no_witness_text tried = if tried == 0 then codes "    nothing to try: not a path\n" else codes "    tried " ++ (decimal tried ++ codes " commands: none shows it\n")
 
 abbrev pub witness_text : ℕ → Option Witness → List ℕ
 witness_text tried None = no_witness_text tried
-witness_text tried (Some w) = labelled (codes "    by ") w.trial ++ (labelled (codes "      before: ") (shown_answer w.before) ++ labelled (codes "      behind: ") (shown_answer w.behind))
+witness_text tried (Some w) = labelled (codes "    try ") w.trial ++ replies_text w.before w.after
 
 -- what is said of what was learned by the command before which so many stand, by these trials
 abbrev pub said_by : Sort → Hunt → ℕ → List (List ℕ) → List ℕ

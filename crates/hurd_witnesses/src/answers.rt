@@ -1,18 +1,18 @@
 //! What the last command of a text is told.
-ghost use Rattle.std.specs.Prelude.{◌≡◌, ◌≢◌, ◌++◌, None, IfOk, OnOk};
+ghost use Rattle.std.specs.Prelude.{◌≡◌, ◌≢◌, None, IfOk};
 ghost use Rattle.std.specs.List.{last_or};
-ghost use Rattle.hurd_dialogue.specs.Parts.{texts};
+ghost use Rattle.hurd_dialogue.specs.Parts.{answers};
 ghost use Rattle.hurd_terminal.specs.declared.fault.Fault.{Fault};
-ghost use Rattle.hurd_witnesses.specs.Answers.{answer_of, behind_line, is_ended, shown_answer, shown_or_none, unended};
+ghost use Rattle.hurd_witnesses.specs.Answers.{answer_of, is_ended, unended};
 
-use hurd_creds::Bytes;
-use hurd_dialogue::{Telling, push_shown_line};
+use hurd_dialogue::Telling;
 use hurd_terminal::Fault;
+use hurd_words::answers::Answer;
 use std::alloc::{AllocError, Global};
 
 /// The last part that a text has still to tell; none where all were told. An error is want of memory.
-fn last_part<T: Telling>(alloc: Global, telling: &mut T) -> Result<Option<Bytes>, AllocError>
-    ensures { IfOk result (λ part. part ≡ last_or None (texts (T.way telling.old).left)) }
+fn last_part<T: Telling>(alloc: Global, telling: &mut T) -> Result<Option<Answer>, AllocError>
+    ensures { IfOk result (λ part. part ≡ last_or None (answers (T.way telling.old).left)) }
 {
     let mut last = None;
     while let Some(part) = telling.next(alloc)? {
@@ -22,7 +22,7 @@ fn last_part<T: Telling>(alloc: Global, telling: &mut T) -> Result<Option<Bytes>
 }
 
 /// What a text tells that was not begun: nothing. An error is want of memory.
-fn nothing_told(fault: Fault) -> Result<Option<Bytes>, AllocError>
+fn nothing_told(fault: Fault) -> Result<Option<Answer>, AllocError>
     ensures { IfOk result (λ told. (told ≡ None) × (fault ≢ Fault.Memory)) }
 {
     match fault {
@@ -34,25 +34,13 @@ fn nothing_told(fault: Fault) -> Result<Option<Bytes>, AllocError>
 }
 
 /// What the last command of a text is told; nothing where the text is bad. An error is want of memory.
-pub(crate) fn answer<T: Telling>(alloc: Global, text: &[u8]) -> Result<Option<Bytes>, AllocError>
+pub(crate) fn answer<T: Telling>(alloc: Global, text: &[u8]) -> Result<Option<Answer>, AllocError>
     ensures { IfOk result (λ told. told ≡ answer_of T.sort text.now) }
 {
     match T::begun(alloc, text) {
         Ok(mut telling) => last_part(alloc, &mut *telling),
         Err(fault) => nothing_told(fault),
     }
-}
-
-/// The bytes behind the first newline.
-fn behind_line(text: &[u8]) -> &[u8]
-    ensures { result.now ≡ behind_line text.now }
-{
-    for (index, byte) in text.iter().enumerate() {
-        if *byte == b'\n' {
-            return &text[index + 1..];
-        }
-    }
-    &[]
 }
 
 /// Whether a text ends with a newline.
@@ -74,22 +62,4 @@ pub(crate) fn unended(text: &[u8]) -> &[u8]
     } else {
         text
     }
-}
-
-/// Adds an answer as one line; a word where there is nothing in it.
-fn push_shown_or_none(text: &mut Vec<u8>, answer: &[u8]) -> Result<(), AllocError>
-    ensures { OnOk result (text.new.items ≡ text.old.items ++ shown_or_none answer.now) }
-{
-    if answer.is_empty() {
-        text.extend_from_slice(b"(nothing)")
-    } else {
-        push_shown_line(text, answer)
-    }
-}
-
-/// Adds what a command was told, as one line and without the command itself.
-pub(crate) fn push_answer(text: &mut Vec<u8>, part: &[u8]) -> Result<(), AllocError>
-    ensures { OnOk result (text.new.items ≡ text.old.items ++ shown_answer part.now) }
-{
-    push_shown_or_none(text, unended(behind_line(part)))
 }

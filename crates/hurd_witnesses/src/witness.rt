@@ -1,21 +1,26 @@
-//! Looking for a command that is answered otherwise.
+//! Looking for a command that gets a different reply.
 ghost use Rattle.std.specs.Prelude.{◌≡◌, ◌++◌, IfOk, OnOk, codes, decimal};
-ghost use Rattle.hurd_witnesses.specs.Answers.{answer_of, shown_answer};
-ghost use Rattle.hurd_witnesses.specs.Witnesses.{ended, labelled, no_witness_text, said_by, text_before, told_apart, tried, witness_by, witness_of, witness_text};
+ghost use Rattle.hurd_witnesses.specs.Answers.{answer_of, first_difference, marks_of};
+ghost use Rattle.hurd_words.specs.Marks.{marked};
+ghost use Rattle.hurd_words.specs.Printing.{text_if};
+ghost use Rattle.hurd_witnesses.specs.Witnesses.{ended, labelled, no_witness_text, place_text, replies_text, said_by, text_before, told_apart, tried, witness_by, witness_of, witness_text};
 
-use crate::answers::{answer, push_answer};
+use crate::answers::answer;
 use crate::hunt::{Hunt, push_line, text_of};
+use crate::shown::{first_difference, marks_of, shown_answer};
 use hurd_creds::Bytes;
 use hurd_dialogue::Telling;
+use hurd_words::answers::Answer;
+use hurd_words::marks::push_marked;
 use itoa::Buffer;
 use std::alloc::{AllocError, Global};
 
-/// A command that is answered otherwise: a line of a script, and what it is told before and behind what was done.
+/// A command that gets a different reply: a line of a script, and its replies before and after what was done.
 #[derive(Debug, Drop)]
 pub struct Witness {
     pub trial: Bytes,
-    pub before: Bytes,
-    pub behind: Bytes,
+    pub before: Answer,
+    pub after: Answer,
 }
 
 /// What a line is told as the last of a text; nothing where it is bad there. An error is want of memory.
@@ -23,7 +28,7 @@ fn answer_behind<T: Telling>(
     alloc: Global,
     text: &[u8],
     line: &[u8],
-) -> Result<Option<Bytes>, AllocError>
+) -> Result<Option<Answer>, AllocError>
     ensures { IfOk result (λ told. told ≡ answer_of T.sort (text.now ++ ended line.now)) }
 {
     let mut whole = Vec::from_slice(alloc, text)?;
@@ -31,26 +36,37 @@ fn answer_behind<T: Telling>(
     answer::<T>(alloc, whole.as_slice())
 }
 
-/// The witness that a trial is, where it is answered twice and otherwise. An error is want of memory.
+/// What is printed of an answer with marks. Fails only if memory runs out.
+fn marked(alloc: Global, answer: &Answer) -> Result<Vec<u8>, AllocError>
+    ensures { IfOk result (λ text. text.items ≡ marked answer.now) }
+{
+    let mut text = Vec::new(alloc);
+    push_marked(&mut text, answer)?;
+    Ok(text)
+}
+
+/// The witness that a trial is, if it gets two different replies. Fails only if memory runs out.
 fn told_apart(
     alloc: Global,
     trial: &Bytes,
-    before: Option<Bytes>,
-    behind: Option<Bytes>,
+    before: Option<Answer>,
+    after: Option<Answer>,
 ) -> Result<Option<Witness>, AllocError>
-    ensures { IfOk result (λ witness. witness ≡ told_apart trial.now before behind) }
+    ensures { IfOk result (λ witness. witness ≡ told_apart trial.now before after) }
 {
-    let (Some(before), Some(behind)) = (before, behind) else {
+    let (Some(before), Some(after)) = (before, after) else {
         return Ok(None);
     };
-    if before.is(behind.as_slice()) {
+    let first = marked(alloc, &before)?;
+    let second = marked(alloc, &after)?;
+    if first.as_slice() == second.as_slice() {
         return Ok(None);
     }
     let trial = Bytes::copied(alloc, trial.as_slice())?;
     Ok(Some(Witness {
         trial,
         before,
-        behind,
+        after,
     }))
 }
 
@@ -120,49 +136,86 @@ fn push_number(text: &mut Vec<u8>, number: usize) -> Result<(), AllocError>
     text.extend_from_slice(Buffer::new().format(number).as_bytes())
 }
 
-/// Adds how many commands were tried in vain, where any were.
+/// Adds how many commands were tried without success.
 fn push_tried(text: &mut Vec<u8>, tried: usize) -> Result<(), AllocError>
-    ensures { OnOk result (text.new.items ≡ text.old.items ++ (codes "    by none of " ++ (decimal tried ++ codes " commands\n"))) }
+    ensures { OnOk result (text.new.items ≡ text.old.items ++ (codes "    tried " ++ (decimal tried ++ codes " commands: none shows it\n"))) }
 {
-    text.extend_from_slice(b"    by none of ")?;
+    text.extend_from_slice(b"    tried ")?;
     push_number(text, tried)?;
-    text.extend_from_slice(b" commands\n")?;
+    text.extend_from_slice(b" commands: none shows it\n")?;
     Ok(())
 }
 
-/// Adds how many commands were tried in vain.
+/// Adds that no command is a witness, and how many were tried.
 fn push_none(text: &mut Vec<u8>, tried: usize) -> Result<(), AllocError>
     ensures { OnOk result (text.new.items ≡ text.old.items ++ no_witness_text tried) }
 {
     if tried == 0 {
-        text.extend_from_slice(b"    by no command on a path\n")
+        text.extend_from_slice(b"    nothing to try: not a path\n")
     } else {
         push_tried(text, tried)
     }
 }
 
-/// Adds a command, on a line of its own.
-fn push_trial(text: &mut Vec<u8>, trial: &[u8]) -> Result<(), AllocError>
-    ensures { OnOk result (text.new.items ≡ text.old.items ++ labelled (codes "    by ") trial.now) }
+/// Adds a line after its label.
+fn push_labelled(text: &mut Vec<u8>, label: &[u8], said: &[u8]) -> Result<(), AllocError>
+    ensures { OnOk result (text.new.items ≡ text.old.items ++ labelled label.now said.now) }
 {
-    text.extend_from_slice(b"    by ")?;
-    text.extend_from_slice(trial)?;
+    text.extend_from_slice(label)?;
+    text.extend_from_slice(said)?;
     text.push(b'\n')?;
     Ok(())
 }
 
-/// Adds an answer, on a line of its own, with what stands in front of it.
-fn push_answer_line(text: &mut Vec<u8>, label: &[u8], answer: &[u8]) -> Result<(), AllocError>
-    ensures { OnOk result (text.new.items ≡ text.old.items ++ labelled label.now (shown_answer answer.now)) }
+/// Adds from which byte on two replies differ.
+fn push_place(text: &mut Vec<u8>, place: usize) -> Result<(), AllocError>
+    ensures { OnOk result (text.new.items ≡ text.old.items ++ place_text place) }
 {
-    text.extend_from_slice(label)?;
-    push_answer(text, answer)?;
-    text.push(b'\n')?;
+    text.extend_from_slice(b"      differ: from byte ")?;
+    push_number(text, place)?;
+    text.extend_from_slice(b" on\n")?;
     Ok(())
+}
+
+/// The same if both are shown alike.
+fn push_differ(
+    alloc: Global,
+    text: &mut Vec<u8>,
+    alike: bool,
+    before: &Answer,
+    after: &Answer,
+) -> Result<(), AllocError>
+    ensures { OnOk result (text.new.items ≡ text.old.items
+        ++ text_if alike (place_text (first_difference (marks_of before.now.content) (marks_of after.now.content)))) }
+{
+    if !alike {
+        return Ok(());
+    }
+    let one = marks_of(alloc, &before.content)?;
+    let two = marks_of(alloc, &after.content)?;
+    push_place(text, first_difference(one.as_slice(), two.as_slice()))
+}
+
+/// Adds both replies, each on a line of its own.
+fn push_replies(
+    alloc: Global,
+    text: &mut Vec<u8>,
+    before: &Answer,
+    after: &Answer,
+) -> Result<(), AllocError>
+    ensures { OnOk result (text.new.items ≡ text.old.items ++ replies_text before.now after.now) }
+{
+    let first = shown_answer(alloc, before)?;
+    let second = shown_answer(alloc, after)?;
+    push_labelled(text, b"      before: ", first.as_slice())?;
+    push_labelled(text, b"      after:  ", second.as_slice())?;
+    let alike = first.as_slice() == second.as_slice();
+    push_differ(alloc, text, alike, before, after)
 }
 
 /// Adds what is said of a witness, or that there is none.
 fn push_witness(
+    alloc: Global,
     text: &mut Vec<u8>,
     tried: usize,
     witness: &Option<Witness>,
@@ -172,10 +225,8 @@ fn push_witness(
     let Some(witness) = witness else {
         return push_none(text, tried);
     };
-    push_trial(text, witness.trial.as_slice())?;
-    push_answer_line(text, b"      before: ", witness.before.as_slice())?;
-    push_answer_line(text, b"      behind: ", witness.behind.as_slice())?;
-    Ok(())
+    push_labelled(text, b"    try ", witness.trial.as_slice())?;
+    push_replies(alloc, text, &witness.before, &witness.after)
 }
 
 /// Adds what is said of what was learned by the command before which so many stand, by these trials.
@@ -189,5 +240,5 @@ pub(crate) fn push_said<T: Telling>(
     ensures { OnOk result (text.new.items ≡ text.old.items ++ said_by T.sort hunt.now made trials.now) }
 {
     let witness = witness_by::<T>(alloc, hunt, made, trials)?;
-    push_witness(text, trials.len(), &witness)
+    push_witness(alloc, text, trials.len(), &witness)
 }

@@ -9,5 +9,8 @@ pub mod MarkLaws
 pub mod WordLaws
 pub mod SpellsBack
 pub mod SentenceLaws
+pub mod TextLaws
+pub mod ErrorNames
+pub mod AnswersOnce
 pub mod ReadsBack
 pub mod ClauseLaws

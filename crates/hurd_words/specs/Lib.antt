@@ -6,6 +6,7 @@ pub mod Reading
 pub mod Printing
 pub mod Escapes
 pub mod Spelling
+pub mod Answers
 pub mod Marks
 pub mod Sentences
 pub mod Turns

@@ -1,22 +1,23 @@
 -- What is printed of things that are done one after another, and that it can be read back.
 use Rattle.std.specs.Prelude.{◌≡◌, ◌≢◌, ℕ, ◌==◌, not, Bool, true, List, [], ◌∷◌, ◌++◌, map}
 use Rattle.std.specs.List.{concat, list_all}
-use Rattle.hurd_words.specs.Marks.{marked}
+use Rattle.hurd_words.specs.Marks.{AreReadAlike, marked}
 use Rattle.hurd_words.specs.Sentences.{Sentence, are_sentences, sentence_lines}
 use Rattle.hurd_words.specs.Spelling.{spelled_by}
+use Rattle.hurd_words.specs.declared.answers.Answer.{Answer}
 
--- of one thing: its own text, what is learned by it, and what is seen then
+-- of one thing: what it was answered, what is learned by it, and what is seen then
 pub record Turn : Type 0 where
-  pub part : List ℕ
+  pub answer : Answer
   pub learned : List Sentence
   pub seen : List Sentence
 
--- the text, the sentences, and an empty line
-abbrev pub paragraph : List ℕ → List ℕ → List ℕ
-paragraph part sentences = marked part ++ (sentences ++ 10 ∷ [])
+-- the answer, the sentences, and an empty line
+abbrev pub paragraph : Answer → List ℕ → List ℕ
+paragraph answer sentences = marked answer ++ (sentences ++ 10 ∷ [])
 
 abbrev pub turn_text : List ℕ → List ℕ → Turn → List ℕ
-turn_text learns sees t = paragraph t.part (sentence_lines learns t.learned ++ sentence_lines sees t.seen)
+turn_text learns sees t = paragraph t.answer (sentence_lines learns t.learned ++ sentence_lines sees t.seen)
 
 abbrev pub turns_text : List ℕ → List ℕ → List Turn → List ℕ
 turns_text learns sees turns = concat (map (turn_text learns sees) turns)
@@ -26,6 +27,12 @@ abbrev pub AreSaid : List Turn → Type 0
 AreSaid [] = Unit {0}
 AreSaid (t ∷ turns) = (are_sentences t.learned ≡ true) × (are_sentences t.seen ≡ true) × AreSaid turns
 
+-- as many turns, of which each was answered alike, with the same sentences
+abbrev pub TurnsAlike : List Turn → List Turn → Type 0
+TurnsAlike [] [] = Unit {0}
+TurnsAlike (t ∷ ts) (u ∷ us) = AreReadAlike t.answer u.answer × (t.learned ≡ u.learned) × (t.seen ≡ u.seen) × TurnsAlike ts us
+TurnsAlike _ _ = ⊥
+
 -- no text begins in both of these ways
 abbrev pub AreApart : List ℕ → List ℕ → Type 0
 AreApart a b = (s t : List ℕ) → a ++ s ≢ b ++ t
@@ -34,11 +41,11 @@ AreApart a b = (s t : List ℕ) → a ++ s ≢ b ++ t
 abbrev pub is_line : List ℕ → Bool
 is_line text = list_all (λ b. not (b == 10)) text
 
--- what is printed is read in one way: the texts, what was learned and what was seen behind each, by clauses, parts and words, and the last line
+-- what is printed is read in one way: the answers, what was learned and what was seen after each, by clauses, parts and words, and the last line
 abbrev pub ReadsBack : Type 0
 ReadsBack =
     (learns sees : List ℕ) (ts us : List Turn) (s t : List ℕ) → AreApart learns sees → AreSaid ts → AreSaid us → is_line s ≡ true → is_line t ≡ true
-    → turns_text learns sees ts ++ (s ++ 10 ∷ []) ≡ turns_text learns sees us ++ (t ++ 10 ∷ []) → (ts ≡ us) × (s ≡ t)
+    → turns_text learns sees ts ++ (s ++ 10 ∷ []) ≡ turns_text learns sees us ++ (t ++ 10 ∷ []) → TurnsAlike ts us × (s ≡ t)
 
 -- and so are words and names of users
 abbrev pub SpellsBack : Type 0

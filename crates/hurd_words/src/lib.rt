@@ -15,6 +15,7 @@
 //! It knows no script and no list of calls: those are read by the crates above.
 #![tactic(auto)]
 
+pub mod answers;
 pub mod escapes;
 pub mod fault;
 pub mod lines;

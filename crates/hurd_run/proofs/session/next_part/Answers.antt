@@ -11,7 +11,7 @@ asked-init c = asking_none c.args.session.now
 pub returns-in-Ok-Output-clause-goes : goal.returns-in-Ok-Output-clause-goes
 returns-in-Ok-Output-clause-goes c = λ names.
     let fine = was_fine (has_failed c.asked.session) c.in-Ok-Output.field-0 Memory c.in-Ok-Output.ensures.stays in
-    asked_part c.args.session.now c.asked.session c.next.new.self c.asked.invariant fine c.in-Ok-Output.part (rw c.in-Ok-Output.field-0-is at (c.in-Ok-Output.ensures.tells fine)) names
+    asked_part c.args.session.now c.asked.session c.next.new.self c.asked.invariant fine c.in-Ok-Output.answer (rw c.in-Ok-Output.field-0-is at (c.in-Ok-Output.ensures.tells fine)) names
 
 pub returns-in-Ok-Done-clause-goes : goal.returns-in-Ok-Done-clause-goes
 returns-in-Ok-Done-clause-goes c = λ names.

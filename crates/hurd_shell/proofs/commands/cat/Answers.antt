@@ -16,7 +16,7 @@ loop-reads-preserved g c =
 pub returns-in-Err-Refused : goal.returns-in-Err-Refused
 returns-in-Err-Refused g c =
     let refused = rw c.in-Err-Refused.field-0-is at c.in-Err-Refused.ensures in
-    rw (c.in-Err-Refused.errno-is, c.new.ensures)
+    rw (c.refuses.ensures, c.in-Err-Refused.errno-is)
     (leads_does (leads_trans c.loop-reads.invariant (cat_err _ _ _ _ c.loop-reads-test.true refused.ends)) (does_gives _ _ _))
 
 pub returns : goal.returns

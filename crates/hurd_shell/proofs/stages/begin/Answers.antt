@@ -44,6 +44,5 @@ returns-in-Fsysopts g c = begins c.task-task.ensures (rw c.in-Fsysopts.is at c.i
 pub returns-in-Settrans : goal.returns-in-Settrans
 returns-in-Settrans g c = begins c.task-task.ensures (rw c.in-Settrans.is at c.in_ok-node.ensures) (rw (c.setting_of.ensures, c.to_set.ensures) at c.with_open-in-Settrans.ensures)
 
-pub returns-in_ok-from_slice-in-Usage : goal.returns-in_ok-from_slice-in-Usage
-returns-in_ok-from_slice-in-Usage g c =
-    begins c.task-task.ensures (rw c.in-Usage.is at c.in_ok-node.ensures) (rw (c.prints.ensures, c.in_ok-from_slice-in-Usage.ensures.items) (ended (does_gives _ _ _)))
+pub returns-in-Usage : goal.returns-in-Usage
+returns-in-Usage g c = begins c.task-task.ensures (rw c.in-Usage.is at c.in_ok-node.ensures) (rw c.misused.ensures (ended (does_gives _ _ _)))

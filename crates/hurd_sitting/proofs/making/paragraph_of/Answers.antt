@@ -8,10 +8,10 @@ use Rattle.hurd_sitting.proofs.making.paragraph_of.Goals as goal
 
 pub returns-clause-tells : goal.returns-clause-tells
 returns-clause-tells c =
-    let says = rw (c.in_ok-part.ensures.part, c.new-shown.ensures, c.new.ensures.items) at c.paragraph.ensures in
+    let says = rw (c.in_ok-answer.ensures.answer, c.new-shown.ensures, c.new.ensures.items) at c.paragraph.ensures in
     IfOk-weaker c.paragraph.result _ _
     (λ text is. paragraph_tells c.args.learners.now (listed_by box_meaning c.args.listed) _ _ c.have-quiet.result c.look_before.new.watch.seen c.said.new.watch.seen c.in_ok-said.said text.items c.have-quiet.ensures
-    c.in_ok-look_before.ensures.sees c.in_ok-part.ensures.world c.in_ok-said.ensures is)
+    c.in_ok-look_before.ensures.sees c.in_ok-answer.ensures.world c.in_ok-said.ensures is)
     says
 
 pub returns-clause-seen : goal.returns-clause-seen

@@ -13,14 +13,14 @@ returns-in_err-quiet-clause-err g c =
     let p = err_from_is_err_and c.from_residual.result c.from_residual.ensures.1 in
     rw (p.1, p.2) (inr refl, inl refl)
 
-pub returns-in_err-part-clause-err : goal.returns-in_err-part-clause-err
-returns-in_err-part-clause-err g c =
-    let p = err_from_is_err_and c.from_residual-in_err-part.result c.from_residual-in_err-part.ensures.1 in
+pub returns-in_err-answer-clause-err : goal.returns-in_err-answer-clause-err
+returns-in_err-answer-clause-err g c =
+    let p = err_from_is_err_and c.from_residual-in_err-answer.result c.from_residual-in_err-answer.ensures.1 in
     rw (p.1, p.2) (inr refl, inl refl)
 
 pub returns-in_default-clause-ok : goal.returns-in_default-clause-ok
 returns-in_default-clause-ok g c =
-    let goes = rw (c.in_ok-quiet.ensures.same, c.in_default.is) at c.in_ok-part.ensures.goes in
+    let goes = rw (c.in_ok-quiet.ensures.same, c.in_default.is) at c.in_ok-answer.ensures.goes in
     none_told _ _ (g.T.Telling.way c.args.telling.now) (g.T.Telling.way c.next.new.self) c.args.tally.now _ _ goes
 
 pub returns-in_err-said-clause-err : goal.returns-in_err-said-clause-err
@@ -37,21 +37,21 @@ pub returns-in_err-print_all-clause-err : goal.returns-in_err-print_all-clause-e
 returns-in_err-print_all-clause-err g c =
     let p = err_from_is_err_and c.from_residual-in_err-print_all.result c.from_residual-in_err-print_all.ensures.1 in
     let failed = c.in_err-print_all.ensures.err in
-    let goes = rw (c.in_ok-quiet.ensures.same, c.in-Some.is) at c.in_ok-part.ensures.goes in
+    let goes = rw (c.in_ok-quiet.ensures.same, c.in-Some.is) at c.in_ok-answer.ensures.goes in
     let says = rw c.world.ensures at c.in_ok-said.ensures in
     let shows = rw (c.are_shown-asked.ensures, c.told.ensures, c.world-2.ensures) at c.in_ok-shown.ensures in
     rw (p.1, p.2) (
       failed.0,
-      part_cut c.args.learners.now.tasks.items (speech c.args.learners.now) (g.T.Telling.way c.args.telling.now) (g.T.Telling.way c.next.new.self) c.in-Some.part goes c.in_ok-quiet.quiet c.looked.new.watch.seen c.said_if_moved.new.watch.seen
+      part_cut c.args.learners.now.tasks.items (speech c.args.learners.now) (g.T.Telling.way c.args.telling.now) (g.T.Telling.way c.next.new.self) c.in-Some.answer goes c.in_ok-quiet.quiet c.looked.new.watch.seen c.said_if_moved.new.watch.seen
           c.in_ok-said.said c.in_ok-shown.shown c.in_ok-quiet.ensures.quiet c.in_ok-quiet.ensures.sees says shows _ _ failed.1,
     )
 
 pub returns-clause-ok : goal.returns-clause-ok
 returns-clause-ok g c =
-    let goes = rw (c.in_ok-quiet.ensures.same, c.in-Some.is) at c.in_ok-part.ensures.goes in
+    let goes = rw (c.in_ok-quiet.ensures.same, c.in-Some.is) at c.in_ok-answer.ensures.goes in
     let says = rw c.world.ensures at c.in_ok-said.ensures in
     let shows = rw (c.are_shown-asked.ensures, c.told.ensures, c.world-2.ensures) at c.in_ok-shown.ensures in
-    part_told c.args.learners.now.tasks.items (speech c.args.learners.now) (g.T.Telling.way c.args.telling.now) (g.T.Telling.way c.next.new.self) c.in-Some.part goes c.in_ok-quiet.quiet c.looked.new.watch.seen c.said_if_moved.new.watch.seen
+    part_told c.args.learners.now.tasks.items (speech c.args.learners.now) (g.T.Telling.way c.args.telling.now) (g.T.Telling.way c.next.new.self) c.in-Some.answer goes c.in_ok-quiet.quiet c.looked.new.watch.seen c.said_if_moved.new.watch.seen
     c.in_ok-said.said c.in_ok-shown.shown c.in_ok-quiet.ensures.quiet c.in_ok-quiet.ensures.sees says shows c.args.tally.now c.counted.result _ _ c.in_ok-print_all.ensures.ok c.counted.ensures
 
 -- where none of what was touched was seen, what was seen is what these see now
@@ -59,7 +59,7 @@ pub said_if_moved-requires : goal.said_if_moved-requires
 said_if_moved-requires g c =
     elim c.if-not-quiet.branch [
       | then-not-quiet b ↦ λ is.
-          let stays = rw c.in_ok-quiet.ensures.same at c.in_ok-part.ensures.noted in
+          let stays = rw c.in_ok-quiet.ensures.same at c.in_ok-answer.ensures.noted in
           let missed : misses (listed (g.T.Telling.noted c.next.new.self)) c.looked.new.watch.seen ≡ true = rw b.noted.ensures at (sym b.misses-unmoved.ensures ∙ (sym b.unmoved-is ∙ is)) in
           rw c.world.ensures (b.if-not-quiet.true, still_sees _ _ _ _ _ _ c.requires.sound stays (c.in_ok-quiet.ensures.sees b.if-not-quiet.true) missed)
       | else-not-quiet b ↦ λ is. absurd (true≢false (sym is ∙ (b.unmoved-is ∙ ap not b.if-not-quiet.false)))

@@ -3,7 +3,7 @@ use Rattle.std.proofs.lemmas.List.{nil_from_length}
 use Rattle.hurd_kinds.specs.Boxes.{box_meaning}
 use Rattle.hurd_lists.specs.Lists.{listed_by}
 use Rattle.hurd_world.specs.Held.{world_of}
-use Rattle.hurd_calls.specs.Making.{after_call, part_of}
+use Rattle.hurd_calls.specs.Making.{after_call, answer_to}
 use Rattle.hurd_calls.proofs.WayLaws.{call_goes, none_goes}
 use Rattle.hurd_calls.proofs.list.RunningCallsTelling.next.Goals as goal
 
@@ -15,9 +15,9 @@ returns-in_default-clause-goes c =
 
 pub returns-clause-goes : goal.returns-clause-goes
 returns-clause-goes c =
-    call_goes c.args.self.now.world.value c.part.new.world c.in-Some.listed _ c.pop_front.new.self.items c.args.self.now.told _ c.args.self.now.tasks c.in_ok-part.field-0 c.in-Some.ensures.items refl
-    (subst (λ w. c.in_ok-part.field-0 ≡ part_of (listed_by box_meaning c.in-Some.listed) (world_of box_meaning w)) c.deref_mut.ensures.value c.in_ok-part.ensures.part)
-    (subst (λ w. world_of box_meaning c.part.new.world ≡ after_call (listed_by box_meaning c.in-Some.listed) (world_of box_meaning w)) c.deref_mut.ensures.value c.in_ok-part.ensures.world)
+    call_goes c.args.self.now.world.value c.answer.new.world c.in-Some.listed _ c.pop_front.new.self.items c.args.self.now.told _ c.args.self.now.tasks c.in_ok-answer.field-0 c.in-Some.ensures.items refl
+    (subst (λ w. c.in_ok-answer.field-0 ≡ answer_to (listed_by box_meaning c.in-Some.listed) (world_of box_meaning w)) c.deref_mut.ensures.value c.in_ok-answer.ensures.answer)
+    (subst (λ w. world_of box_meaning c.answer.new.world ≡ after_call (listed_by box_meaning c.in-Some.listed) (world_of box_meaning w)) c.deref_mut.ensures.value c.in_ok-answer.ensures.world)
 
 pub returns-clause-noted : goal.returns-clause-noted
-returns-clause-noted c = rw c.deref_mut.ensures.value at c.in_ok-part.ensures.noted
+returns-clause-noted c = rw c.deref_mut.ensures.value at c.in_ok-answer.ensures.noted
