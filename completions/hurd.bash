@@ -4,12 +4,12 @@
 # What a verb takes, into `operands` and `options`: FILE is a file, VERB a verb, and nothing is known of WHO.
 _hurd_takes() {
     case $1 in
-        run) operands=(FILE) options=(--calls --json -h --help) ;;
-        learn) operands=(WHO FILE) options=(--calls --how -h --help) ;;
-        see) operands=(WHO FILE) options=(--calls -h --help) ;;
-        draw) operands=(FILE) options=(--as --calls -h --help) ;;
-        compare) operands=(WHO FILE FILE) options=(-h --help) ;;
-        sample) operands=() options=(--calls -h --help) ;;
+        run) operands=(FILE) options=(--calls --json --max-output -h --help) ;;
+        learn) operands=(WHO FILE) options=(--calls --how --max-look --max-output -h --help) ;;
+        see) operands=(WHO FILE) options=(--calls --max-look --max-output -h --help) ;;
+        draw) operands=(FILE) options=(--as --calls --max-output -h --help) ;;
+        compare) operands=(WHO FILE FILE) options=(--max-output -h --help) ;;
+        sample) operands=() options=(--calls --max-output -h --help) ;;
         help) operands=(VERB) options=() ;;
         *) operands=() options=() ;;
     esac

@@ -15,7 +15,7 @@ import sources
 HERE = os.path.dirname(os.path.abspath(__file__))
 TOP = os.path.dirname(HERE)
 SCRIPTS = ["read.js", "machine.js", "tree.js", "lecture.js", "page.js"]
-FIRST = ["learned-secret.hurd", "learned-server.hurd", "learned-size.hurd", "learned-text.hurd", "learned-target.hurd", "strangers-file.hurd"]
+FIRST = ["vote.hurd", "learned-secret.hurd", "learned-server.hurd", "learned-size.hurd", "learned-text.hurd", "learned-target.hurd", "strangers-file.hurd"]
 TITLES = {
     "welcome.hurd": "The first script: root writes a text, and alice reads it.",
     "learned-secret.hurd": "Bob keeps a diary in his home, and closes his home. What does alice learn about it?",

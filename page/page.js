@@ -36,9 +36,12 @@ const Page = {
     if (turn !== this.turn) return;
     $("stop").hidden = true;
     Beside.show(pair);
-    if (!this.fault(whole, text)) { document.body.dataset.ready = "bad"; return; }
+    const failed = [whole, all, seen].find(run => run && (run.trap || run.status)) || whole;
+    if (!this.fault(failed, text)) { document.body.dataset.ready = "bad"; return; }
+    const output = Read.output(Read.decoder.decode(whole.bytes));
+    if (!Read.agrees(output.paragraphs, commands)) { this.nothing("The page can\u2019t tell which reply is to which command, so it shows none."); document.body.dataset.ready = "bad"; return; }
     this.mark(text, commands, at, -1);
-    this.told(Read.output(Read.text(whole.bytes)), commands, at);
+    this.told(output, commands, at);
     const views = run => run && run.status === 0 ? Read.seen(Read.text(run.bytes)) : [];
     this.draw(views(all), views(seen), users);
     this.sees(views(seen), who);
@@ -57,6 +60,13 @@ const Page = {
 
   say(text, is_bad) { $("status").textContent = text; $("status").className = is_bad ? "bad" : ""; },
 
+  // nothing of a run is shown, for this reason
+  nothing(why) {
+    $("fault").hidden = false;
+    $("fault").textContent = why;
+    for (const id of ["told", "sees", "picture"]) $(id).replaceChildren(element("p", "sum", "Nothing is shown."));
+  },
+
   // whether the script ran; if not, shows why, at its line
   fault(run, text) {
     const said = Read.complaint(Read.text(run.errors)), why = run.trap ? `The run ended: ${run.trap}.` : run.status ? said.why || `The run ended with status ${run.status}.` : "";
@@ -65,7 +75,7 @@ const Page = {
     this.say("");
     if (!why) return true;
     this.mark(text, [], 0, said.at);
-    if (said.at >= 0) $("fault").append(element("br"), element("code", "", this.short(Read.shown(text.split("\n")[said.at] || ""), 200)));
+    if (said.at >= 0) $("fault").append(element("br"), element("code", "", this.short(Read.ascii(text.split("\n")[said.at] || ""), 200)));
     if (run.status === 1) this.slide(0, []);
     for (const id of ["told", "sees", "picture"]) $(id).replaceChildren(element("p", "sum", run.status === 1 ? "Nothing was run." : "The run did not end, so nothing of it is shown."));
     return false;
@@ -126,15 +136,25 @@ const Page = {
     return made;
   },
 
+  // the forms of a command of scripts, as the help has them
+  forms(command) {
+    const name = Read.words(command)[1], forms = [...this.help.script.matchAll(/WHO ([^\n]*?)(?=  |\n|$)/g)].map(found => found[1]).filter(form => form.split(" ")[0] === name);
+    return forms.length ? `The command is: ${forms.join(", or ")}. A space within a word is \\s.` : "";
+  },
+
   told({ paragraphs, last }, commands, at) {
-    const list = element("ol");
+    const list = element("ol"), briefs = Read.brief(paragraphs, at), most = 1000;
     paragraphs.forEach(({ reply, learned }, k) => {
       const item = element("li", "part" + (commands[k] && this.who.has(commands[k].who) ? " own" : "") + (k + 1 === at ? " now" : ""));
       const button = element("button", "command", reply.command);
       if (k + 1 === at) button.setAttribute("aria-current", "step");
       item.onclick = () => this.go(k + 1);
-      item.append(button, ...reply.lines.map(line => this.line(line)));
-      item.append(...learned.map(line => element("span", "learned", line)));
+      item.append(button, ...briefs[k].shown.map(line => this.line(line)));
+      const forms = reply.lines.some(line => line.mark === "!" && line.text === "usage") && this.forms(reply.command);
+      if (forms) item.append(element("span", "sum", forms));
+      if (briefs[k].left_out) item.append(element("span", "sum", `${briefs[k].left_out} more lines are not shown.`));
+      item.append(...learned.slice(0, most).map(line => element("span", "learned", Read.shown(line))));
+      if (learned.length > most) item.append(element("span", "sum", `${learned.length - most} more lessons are not shown.`));
       list.append(item);
     });
     $("told").replaceChildren(list, element("p", "sum", last));
@@ -155,10 +175,17 @@ const Page = {
   sees(seen, who) {
     const table = element("table"), body = element("tbody");
     table.append(element("caption", "", seen.length ? this.sees_caption(who) : "Nothing is shown before the first command."), body);
-    for (const [place, ...parts] of seen) {
-      const row = element("tr"), head = element("th", "", place);
+    const most = 2000;
+    for (const [place, ...parts] of seen.slice(0, most)) {
+      const row = element("tr"), head = element("th", "", this.short(place, 20000));
       head.scope = "row";
-      row.append(head, element("td", "", parts.join(": ")));
+      row.append(head, element("td", "", this.short(parts.join(": "), 20000)));
+      body.append(row);
+    }
+    if (seen.length > most) {
+      const row = element("tr"), rest = element("td", "sum", `${seen.length - most} more lines are not shown.`);
+      rest.colSpan = 2;
+      row.append(rest);
       body.append(row);
     }
     $("sees").replaceChildren(table);

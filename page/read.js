@@ -11,6 +11,9 @@ const Read = {
     });
   },
 
+  // the same of a text in which only printable ASCII is good, as in a line of a script: all else becomes escapes
+  ascii: text => text.replace(/[^\u0020-\u007e]/gu, c => "\\u{" + c.codePointAt(0).toString(16) + "}"),
+
   // bytes as such a text
   text: bytes => Read.shown(Read.decoder.decode(bytes)),
 
@@ -20,19 +23,32 @@ const Read = {
     return hex ? (code > 31 && code < 127 ? String.fromCharCode(code) : all) : one === "s" ? " " : one === "n" ? "\u21b5" : "\\";
   }),
 
-  is_skipped: line => /^ *(#.*)?$/.test(line),
+  // the bytes that a word of a call list spells
+  spelled: word => word.replace(/\\(x([0-9a-f]{2})|[sn\\])/g, (all, one, hex) => hex ? String.fromCharCode(parseInt(hex, 16)) : { s: " ", n: "\n", "\\": "\\" }[one]),
+
+  is_skipped: line => line[0] === "#" || /^ *$/.test(line),
   words: line => line.split(" ").filter(word => word),
 
-  // the users of a script, or the tasks of a call list, each with the first uid; and the lines of commands or calls
+  // the least of some ids
+  least(ids) {
+    const numbers = ids.split(",").filter(id => /^[0-9]+$/.test(id)).map(Number);
+    return numbers.length ? String(Math.min(...numbers)) : ids;
+  },
+
+  // the users of a script, or the tasks of a call list, each with the least uid; and the lines of commands or calls, each with the line that the program prints of it
   lines(text, is_list) {
     const users = new Map(is_list ? [] : [["root", "0"]]), commands = [];
     text.split("\n").forEach((line, at) => {
       if (this.is_skipped(line)) return;
-      const words = this.words(line);
-      if (commands.length === 0 && words[0] === (is_list ? "task" : "user")) {
+      const words = this.words(line), first = is_list ? this.spelled(words[0]) : words[0];
+      if (commands.length === 0 && first === (is_list ? "task" : "user")) {
         const name = is_list ? String(users.size) : words[1] || "";
-        if (/^([a-z][a-z0-9]{0,15}|[0-9]+)$/.test(name)) users.set(name, (words[is_list ? 1 : 2] || "").split(",")[0]);
-      } else commands.push({ at, who: words[0], text: words.slice(1).join(" ") });
+        if (/^([a-z][a-z0-9]{0,15}|[0-9]+)$/.test(name)) users.set(name, this.least(words[is_list ? 1 : 2] || ""));
+      } else {
+        const whole = line.replace(/^ +| +$/g, ""), rest = whole.slice(words[0].length).replace(/^ +/, "");
+        const who = is_list && /^[0-9]+$/.test(first) ? first.replace(/^0+(?=.)/, "") : first;
+        commands.push({ at, who, text: words.slice(1).join(" "), printed: is_list ? whole : `${who}$ ${rest}` });
+      }
     });
     return { users, commands };
   },
@@ -66,6 +82,29 @@ const Read = {
     }
     return { paragraphs, last: lines[reader.at] || "" };
   },
+
+  // What is shown of the replies to all commands: so many lines and characters for the reply after `at`, and as many for all others together; of each line at most
+  // 2,000 characters. Of each reply it says how many lines are left out. More would keep the browser busy for minutes.
+  brief(paragraphs, at) {
+    const room = () => ({ lines: 2000, characters: 200000 }), own = room(), others = room();
+    return paragraphs.map(({ reply }, k) => this.fit(reply.lines, k + 1 === at ? own : others));
+  },
+
+  // the lines that have room; the room gets smaller
+  fit(lines, room) {
+    const shown = [];
+    for (const line of lines) {
+      if (!room.lines || !room.characters) break;
+      const text = line.text.slice(0, Math.min(2000, room.characters)), cut = line.text.length - text.length;
+      shown.push({ ...line, text: this.shown(text) + (cut ? ` \u2026 and ${cut} more characters` : "") });
+      room.lines--;
+      room.characters -= text.length;
+    }
+    return { shown, left_out: lines.length - shown.length };
+  },
+
+  // whether there is a paragraph for each command, and each begins with its command
+  agrees: (paragraphs, commands) => paragraphs.length === commands.length && paragraphs.every(({ reply }, k) => reply.command === commands[k].printed),
 
   // everything that is seen, one sentence per line, by clauses
   seen: text => text.split("\n").filter(line => line).map(line => line.split(": ").slice(1)),

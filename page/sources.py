@@ -1,5 +1,7 @@
 #!/usr/bin/env python3
-"""The checksum of the sources of the page: its program, all crates that it depends on, the examples, and page/. It does not use git.
+"""The checksum of what the page is made of: the code (src/) of its program and of all crates that it depends on, the examples, and page/. It does not use git.
+
+Definitions and proofs are not in it: they change nothing in the page.
 
 `sources.py` prints it; `sources.py PAGE` compares it with the checksum of the sources from which a page was made.
 """
@@ -33,7 +35,7 @@ def below(name):
 
 
 def files():
-    folders = [os.path.join("crates", name) for name in below(PROGRAM)] + ["examples", "page"]
+    folders = [os.path.join("crates", name, "src") for name in below(PROGRAM)] + ["examples", "page"]
     found = []
     for folder in folders:
         for at, inner, names in os.walk(os.path.join(TOP, folder)):

@@ -11,7 +11,8 @@ const says = (what, good) => { if (good) passed++; else if (failed++ < 10) conso
 
 // a browser that takes its commands from a pipe
 function start() {
-  const ran = spawn(browser, ["--headless=new", "--no-sandbox", "--disable-gpu", "--proxy-server=127.0.0.1:1", "--remote-debugging-pipe", "--user-data-dir=" + mkdtempSync(join(tmpdir(), "page-"))], { stdio: ["ignore", "ignore", "ignore", "pipe", "pipe"] });
+  const own = mkdtempSync(join(tmpdir(), "page-"));
+  const ran = spawn(browser, ["--headless=new", "--no-sandbox", "--disable-gpu", "--proxy-server=127.0.0.1:1", "--remote-debugging-pipe", "--user-data-dir=" + own], { stdio: ["ignore", "ignore", "ignore", "pipe", "pipe"] });
   const waiting = new Map();
   let next = 1, left = "";
   ran.stdio[4].on("data", bytes => {
@@ -24,7 +25,9 @@ function start() {
     waiting.set(id, answer => answer.error ? fail(new Error(method + ": " + answer.error.message)) : done(answer.result));
     ran.stdio[3].write(JSON.stringify({ id, method, params, sessionId }) + "\0");
   });
-  return { ask, stop: () => ran.kill("SIGKILL") };
+  // its folder goes with it
+  const stop = () => new Promise(done => { ran.on("exit", () => { rmSync(own, { recursive: true, force: true, maxRetries: 5 }); done(); }); ran.kill("SIGKILL"); });
+  return { ask, stop };
 }
 
 const sleep = ms => new Promise(done => setTimeout(done, ms));
@@ -200,7 +203,7 @@ async function main() {
     await open(`script=${Buffer.from(signs).toString("base64url")}&who=alice`);
     const lines_of = k => value(`[...document.querySelectorAll("#told .part")][${k}].innerText.split("\\n").slice(1).join("/") + [...document.querySelectorAll("#told .part")][${k}].querySelectorAll(".refused").length`);
     const [of_text, of_refusal, of_usage, of_names] = [await lines_of(4), await lines_of(5), await lines_of(6), await lines_of(7)];
-    says(`signs: ${JSON.stringify([of_text, of_refusal, of_usage, of_names])}`, of_text === "| EACCES/| ! EACCES/|   Refused EACCES/\\ no newline0" && of_refusal === "! EACCES1" && of_usage === "! usage1" && of_names === "| a/| a\u21b5b\u21b5/| b0");
+    says(`signs: ${JSON.stringify([of_text, of_refusal, of_usage, of_names])}`, of_text === "| EACCES/| ! EACCES/|   Refused EACCES/\\ no newline0" && of_refusal === "! EACCES1" && of_usage === "! usage/The command is: cat NODE. A space within a word is \\s.1" && of_names === "| a/| a\u21b5b\u21b5/| b0");
     await open(`list=${Buffer.from("task 0 0\ntask 1 1\n1 dir_mkdir 1 =d 755\n0 dir_mkdir 1 =\\s\\sRefused\\sEACCES 755\n0 dir_lookup 1 = READ 0\n0 dir_readdir 3\n").toString("base64url")}&who=0`);
     says("signs of a call list", await value(`[...document.querySelectorAll("#told .refused")].map(line => line.textContent).join()`) === "|   Refused EACCES" && (await value(`document.getElementById("told").textContent`)).includes("Refused\\sEACCES"));
 
@@ -232,12 +235,41 @@ async function main() {
       says("somebody of the address who isn't in the text: " + who, await open(`${sort === "calls" ? "list" : "script"}=${Buffer.from(text).toString("base64url")}&who=${encodeURIComponent(who)}`) === "yes" && (await value(`document.getElementById("status").textContent`)).includes(`${who} isn't in the `) && await value(`document.querySelectorAll("#who input:checked").length === 1`));
       says("markup in a name was run", await value(`window.hit === undefined && document.querySelectorAll("#right img, #left img").length === 0`));
     }
+    // what is shown at a command is that command's, whatever stands in comments, and however tasks are written
+    const owns = () => value(`[...document.querySelectorAll("#told .part.own .command")].map(button => button.textContent).join("/")`);
+    const parts = () => value(`document.querySelectorAll("#told .part").length`);
+    await open(`script=${Buffer.from("user alice 1000 1000\nuser bob 1001 1001\n# a comment\u2028of two lines\n# another\u2029one\nroot mkdir /tmp\nroot chmod 1777 /tmp\nbob put /tmp/x secret\nalice cat /tmp/x\nbob chmod 600 /tmp/x\nalice  ls   -d /tmp/x \n").toString("base64url")}&who=alice&at=5`);
+    says(`separators in comments: ${await owns()}`, await value("document.body.dataset.ready") === "yes" && await owns() === "alice$ cat /tmp/x/alice$ ls   -d /tmp/x" && await parts() === 6);
+    says("separators in comments: what is seen after chmod", !(await value(`document.getElementById("sees").textContent`)).includes("secret"));
+    await open(`list=${Buffer.from("task 0 0\n\\x74ask 1000 1000\n0 dir_mkdir 1 =tmp 777\n\\x31 io_stat 1\n001 io_stat 1\n").toString("base64url")}&who=1`);
+    says(`tasks by escapes: ${await owns()}`, await value("document.body.dataset.ready") === "yes" && await owns() === "\\x31 io_stat 1/001 io_stat 1" && await parts() === 3 && await value(`document.querySelectorAll("#who input").length`) === 2);
+    says("the owner is the user with that least uid", await value(`JSON.stringify([...Read.lines("user mallory 1000,5 1000\\nuser alice 1000 1000\\n", false).users])`) === '[["root","0"],["mallory","5"],["alice","1000"]]');
+    says("replies of other commands are not shown", await value(`(() => { const { commands } = Read.lines("root ls /\\nroot ls -d /\\n", false), { paragraphs } = Read.output("root$ ls /\\n\\nroot$ ls -d /\\n| x\\n\\nlast\\n"); return Read.agrees(paragraphs, commands) && !Read.agrees(paragraphs.slice(1), commands) && !Read.agrees([...paragraphs].reverse(), commands) && !Read.agrees([], commands); })()`));
+    const shown_so = async change => { await open("example=welcome.hurd&who=alice&at=1"); await value(`${change}; Page.show()`); return value("document.body.dataset.ready"); };
+    says("what is seen finds no memory", await shown_so(`{ const run = Page.run; Page.run = (verb, ...words) => verb === "see" ? Promise.resolve({ status: 2, bytes: new Uint8Array(), errors: new TextEncoder().encode("hurd: out of memory\\n") }) : run(verb, ...words); }`) === "bad" && /memory/.test(await value(`document.getElementById("fault").textContent`)) && !(await value(`document.getElementById("right").textContent`)).includes("Nothing has been done yet"));
+    says("paragraphs that don't agree are not shown", await shown_so("Read.agrees = () => false") === "bad" && await parts() === 0 && /which reply/.test(await value(`document.getElementById("fault").textContent`)));
+    await fault("root ls /\nroot cat a\u00ad\u180e\u2800\u3164\u{e0041}b\n");
+    says("hidden characters in a bad line", (await value(`document.getElementById("fault").textContent`)).endsWith("root cat a\\u{ad}\\u{180e}\\u{2800}\\u{3164}\\u{e0041}b"));
     says("a broken address", await open("script=%%%") === "yes" && /incomplete/.test(await value(`document.getElementById("status").textContent`)));
     await open("example=learned-secret.hurd");
     await value(`document.getElementById("text").value = document.getElementById("text").value.replace(/alice/g, "amy"); Page.show()`);
     says("a user who is removed while she is chosen", await value(`[...document.querySelectorAll("#who input")].map(input => input.value).join()`) === "root,amy,bob");
 
     await beside({ value, open, ready, size });
+
+    // after `usage` the page says how the command is written
+    await open(`script=${Buffer.from("root put /a hello world\nroot ls -q\nroot put /a usage\nroot cat /a\n").toString("base64url")}&who=root`);
+    const hints = await value(`JSON.stringify([...document.querySelectorAll("#told .part")].map(part => [...part.querySelectorAll(".sum")].map(line => line.textContent).join()))`);
+    says("usage: " + hints, hints === JSON.stringify(["The command is: put NODE TEXT. A space within a word is \\s.", "The command is: ls NODE, or ls -d NODE. A space within a word is \\s.", "", ""]));
+
+    // great outputs are cut, and the page says how much of them it shows; it answers all the while: the longest time between two ticks of a clock
+    const great = async text => { await value(`{ window.gap = 0; let last = performance.now(); clearInterval(window.clock); window.clock = setInterval(() => { const now = performance.now(); window.gap = Math.max(window.gap, now - last); last = now; }, 20); }`); await value(`Page.open(${JSON.stringify(text)}, "script", ["root"])`); await sleep(500); return [Math.round(await value("window.gap")), await value(`document.querySelectorAll("#told .line").length`), await value(`document.getElementById("told").textContent`)]; };
+    const [slow_lines, lines_shown, lines_told] = await great("root settrans -ac n /hurd/hello --contents=" + "\\n".repeat(2000) + "\n" + "root cat n\n".repeat(90));
+    says(`180,000 lines: ${slow_lines} ms, ${lines_shown} shown`, slow_lines < 4000 && lines_shown <= 4000 && /2000 more lines are not shown\./.test(lines_told));
+    const [slow_bytes, , bytes_told] = await great("root settrans -ac z /hurd/zero\n" + "root cat z\n".repeat(20));
+    says(`20 MiB of zeros: ${slow_bytes} ms, ${bytes_told.length} characters shown`, slow_bytes < 4000 && bytes_told.length < 500000 && /\u2026 and 1046576 more characters/.test(bytes_told));
+
+    console.log(`page: the longest wait while 180,000 lines are shown ${slow_lines} ms, and 20 MiB of zeros ${slow_bytes} ms`);
 
     // a long run is stopped, and the page goes on
     const seen = "user alice 1000 1000\nroot mkdir /d\n" + Array.from({ length: 4000 }, (_, k) => `root put /d/${k} x\n`).join("");
@@ -273,7 +305,7 @@ async function main() {
         await shoot(name);
       }
     }
-  } finally { stop(); }
+  } finally { await stop(); }
   console.log(`page: in a browser: ${passed} passed, ${failed} failed`);
   process.exit(failed ? 1 : 0);
 }

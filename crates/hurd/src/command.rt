@@ -7,7 +7,7 @@ const ABOUT: &str =
     "Run scripts in which several users share a file tree, and report what each of them can learn.\nThe tree is in memory. Files may be served by translators of ten built-in kinds, as in the GNU Hurd.";
 
 const AFTER: &str =
-    "FILE  a script; or a call list, if its name ends in .calls or --calls is given; - is standard input\nWHO   comma-separated users of the script, or task numbers of the call list\nONE, TWO  scripts with the same users, in which WHO run the same commands\n\nExit status:\n  0  success (compare: WHO get the same replies in both scripts)\n  1  FILE is invalid, WHO names somebody who is not in it, or ONE and TWO cannot be compared\n  2  wrong usage, a read or write failed, or out of memory\n  3  compare: WHO get a different reply in TWO\n\nErrors go to standard error, as  hurd: FILE:LINE: bad script: REASON\n\nExamples:\n  hurd run examples/welcome.hurd\n  hurd learn alice examples/learned-secret.hurd\n  hurd learn --how alice examples/learned-secret.hurd\n  hurd see alice examples/learned-secret.hurd\n  hurd draw --as alice examples/learned-secret.hurd | dot -Tsvg > tree.svg\n  hurd compare alice examples/unseen-one.hurd examples/unseen-two.hurd\n  hurd run --json examples/sent-port.calls\n  hurd sample 7 | hurd learn alice -";
+    "FILE  a script; or a call list, if its name ends in .calls or --calls is given; - is standard input\nWHO   comma-separated users of the script, or task numbers of the call list\nONE, TWO  scripts with the same users, in which WHO run the same commands\n\nExit status:\n  0  success (compare: WHO get the same replies in both scripts)\n  1  FILE is invalid, WHO names somebody who is not in it, or ONE and TWO cannot be compared\n  2  wrong usage, a read or write failed, or out of memory\n  3  compare: WHO get a different reply in TWO\n  4  there was more output than --max-output allows\n\nErrors go to standard error, as  hurd: FILE:LINE: bad script: REASON\n\nExamples:\n  hurd run examples/welcome.hurd\n  hurd learn alice examples/learned-secret.hurd\n  hurd learn --how alice examples/learned-secret.hurd\n  hurd see alice examples/learned-secret.hurd\n  hurd draw --as alice examples/learned-secret.hurd | dot -Tsvg > tree.svg\n  hurd compare alice examples/unseen-one.hurd examples/unseen-two.hurd\n  hurd run --json examples/sent-port.calls\n  hurd sample 7 | hurd learn alice -";
 
 const FILE: &str = "a script, a call list (NAME.calls), or - for standard input";
 
@@ -21,6 +21,33 @@ fn word<'a>(alloc: Global, name: &'a str, help: &'a str) -> Arg<'a> {
         .action(ArgAction::Set)
         .required(true)
         .help(help)
+}
+
+/// An option that takes a number of bytes.
+fn bytes<'a>(alloc: Global, name: &'a str, help: &'a str) -> Arg<'a> {
+    Arg::new(alloc, name)
+        .long(name)
+        .value_name("BYTES")
+        .action(ArgAction::Set)
+        .help(help)
+}
+
+/// The option that each verb has: how much it prints at most.
+fn most_output<'a>(alloc: Global) -> Arg<'a> {
+    bytes(
+        alloc,
+        "max-output",
+        "Stop once BYTES bytes are printed, with status 4 if there were more",
+    )
+}
+
+/// The option of verbs that print what is seen: how much of it they print at a time.
+fn most_look<'a>(alloc: Global) -> Arg<'a> {
+    bytes(
+        alloc,
+        "max-look",
+        "Print at most BYTES bytes of each lesson and of each look, and say how many more there are",
+    )
 }
 
 /// A verb for one text. Fails only if memory runs out.
@@ -44,6 +71,7 @@ fn run<'a>(alloc: Global) -> Result<Command<'a>, AllocError> {
         "Print the transcript of a script or call list",
     )?
     .arg(json)?
+    .arg(most_output(alloc))?
     .arg(word(alloc, "FILE", FILE))
 }
 
@@ -61,6 +89,8 @@ fn learn<'a>(alloc: Global) -> Result<Command<'a>, AllocError> {
         "Print the transcript and, after each command by others, what WHO learn from it",
     )?
     .arg(how)?
+    .arg(most_look(alloc))?
+    .arg(most_output(alloc))?
     .arg(word(alloc, "WHO", WHO))?
     .arg(word(alloc, "FILE", FILE))
 }
@@ -77,6 +107,7 @@ fn sample<'a>(alloc: Global) -> Result<Command<'a>, AllocError> {
     Command::new(alloc, "sample")
         .about("Generate a random script or call list")
         .arg(calls)?
+        .arg(most_output(alloc))?
         .arg(word(
             alloc,
             "SEED",
@@ -90,6 +121,7 @@ fn compare<'a>(alloc: Global) -> Result<Command<'a>, AllocError> {
     let about = "Run two scripts and report whether WHO can tell them apart";
     Command::new(alloc, "compare")
         .about(about)
+        .arg(most_output(alloc))?
         .arg(word(alloc, "WHO", "comma-separated users of both scripts"))?
         .arg(word(alloc, "ONE", SCRIPT))?
         .arg(word(alloc, "TWO", SCRIPT))
@@ -98,6 +130,8 @@ fn compare<'a>(alloc: Global) -> Result<Command<'a>, AllocError> {
 /// The whole command line. Fails only if memory runs out.
 pub fn hurd<'a>(alloc: Global) -> Result<Command<'a>, AllocError> {
     let see = verb(alloc, "see", "Print everything that WHO can see at the end")?
+        .arg(most_look(alloc))?
+        .arg(most_output(alloc))?
         .arg(word(alloc, "WHO", WHO))?
         .arg(word(alloc, "FILE", FILE))?;
     let marked = Arg::new(alloc, "as")
@@ -111,6 +145,7 @@ pub fn hurd<'a>(alloc: Global) -> Result<Command<'a>, AllocError> {
         "Print the tree at the end as a Graphviz graph",
     )?
     .arg(marked)?
+    .arg(most_output(alloc))?
     .arg(word(alloc, "FILE", FILE))?;
     Command::new(alloc, "hurd")
         .bin_name("hurd")?

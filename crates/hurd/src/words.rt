@@ -21,6 +21,13 @@ pub enum Wanted {
     Witnesses { who: String },
 }
 
+/// What is asked, and how many bytes may be printed, if that is limited.
+#[derive(Drop)]
+pub struct Words {
+    pub asked: Asked,
+    pub most: Option<usize>,
+}
+
 /// What is asked, and of which files; `-` is standard input.
 #[derive(Drop)]
 pub enum Asked {
@@ -53,6 +60,10 @@ pub enum Unasked {
     Seed,
     /// A count is none.
     Count,
+    /// A number of bytes is none.
+    Bytes,
+    /// Witnesses are asked for, and lessons that are cut short.
+    CutWitnesses,
     Memory,
 }
 
@@ -73,6 +84,8 @@ impl Unasked {
                 b"hurd: --how is for scripts: it tries no commands in a call list\n",
             Unasked::Seed => b"hurd: SEED must be a number from 0 to 18446744073709551615\n",
             Unasked::Count => b"hurd: COUNT must be a number from 0 to 18446744073709551615\n",
+            Unasked::Bytes => { b"hurd: BYTES must be a number from 0 to 18446744073709551615\n" }
+            Unasked::CutWitnesses => b"hurd: --how and --max-look cannot be combined\n",
             Unasked::Memory => b"hurd: out of memory\n",
         }
     }
@@ -105,7 +118,7 @@ fn asked_by(alloc: Global, verb: &str, matches: &ArgMatches<'_>) -> Result<Asked
         "sample" => sample_of(matches),
         "run" if matches.get_flag("json") => vectors_of(alloc, matches),
         "learn" if matches.get_flag("how") => witnesses_of(alloc, matches),
-        _ => Ok(request_of(alloc, verb, matches)?),
+        _ => request_of(alloc, verb, matches),
     }
 }
 
@@ -137,6 +150,17 @@ fn number_of(word: Option<&str>) -> Option<u64> {
     }
 }
 
+/// How many bytes an option allows, if it is given.
+fn bytes_of(matches: &ArgMatches<'_>, id: &str) -> Result<Option<usize>, Unasked> {
+    let Some(word) = matches.get_str(id) else {
+        return Ok(None);
+    };
+    match number_of(Some(word)) {
+        Some(number) => Ok(Some(number as usize)),
+        None => Err(Unasked::Bytes),
+    }
+}
+
 /// A list that is asked for as vectors.
 fn vectors_of(alloc: Global, matches: &ArgMatches<'_>) -> Result<Asked, Unasked> {
     let file = text_of(alloc, matches, "FILE")?;
@@ -151,6 +175,9 @@ fn vectors_of(alloc: Global, matches: &ArgMatches<'_>) -> Result<Asked, Unasked>
 
 /// A script that is asked for with witnesses.
 fn witnesses_of(alloc: Global, matches: &ArgMatches<'_>) -> Result<Asked, Unasked> {
+    if matches.get_str("max-look").is_some() {
+        return Err(Unasked::CutWitnesses);
+    }
     let who = text_of(alloc, matches, "WHO")?;
     let file = text_of(alloc, matches, "FILE")?;
     match sort_of(matches, &file) {
@@ -171,16 +198,18 @@ fn sort_of(matches: &ArgMatches<'_>, file: &String) -> TextSort {
     }
 }
 
-/// The same of a verb for one file. Fails only if memory runs out.
-fn request_of(alloc: Global, verb: &str, matches: &ArgMatches<'_>) -> Result<Asked, AllocError> {
+/// The same of a verb for one file.
+fn request_of(alloc: Global, verb: &str, matches: &ArgMatches<'_>) -> Result<Asked, Unasked> {
     let file = text_of(alloc, matches, "FILE")?;
     let sort = sort_of(matches, &file);
     let verb = match verb {
         "learn" => Verb::Learn {
             who: text_of(alloc, matches, "WHO")?,
+            most: bytes_of(matches, "max-look")?,
         },
         "see" => Verb::See {
             who: text_of(alloc, matches, "WHO")?,
+            most: bytes_of(matches, "max-look")?,
         },
         "draw" => Verb::Draw {
             who: named_by(alloc, matches)?,
@@ -231,15 +260,22 @@ fn refuse(rt: &HostRuntime, words: &[String]) -> u8 {
     }
 }
 
+/// What is asked by a verb and its words, and how much may be printed.
+fn words_by(alloc: Global, verb: &str, matches: &ArgMatches<'_>) -> Result<Words, Unasked> {
+    let most = bytes_of(matches, "max-output")?;
+    let asked = asked_by(alloc, verb, matches)?;
+    Ok(Words { asked, most })
+}
+
 /// What these words ask; else the exit status, where help or what is wrong with them was printed.
-fn parsed(rt: &HostRuntime, words: &[String]) -> Result<Asked, u8> {
+fn parsed(rt: &HostRuntime, words: &[String]) -> Result<Words, u8> {
     let alloc = rt.alloc();
     let Ok(command) = hurd(alloc) else {
         return Err(trouble(rt, b"hurd: out of memory\n"));
     };
     match command.try_get_matches_from(words) {
         Ok(matches) => match matches.subcommand() {
-            Some((verb, found)) => match asked_by(alloc, verb, found) {
+            Some((verb, found)) => match words_by(alloc, verb, found) {
                 Ok(asked) => Ok(asked),
                 Err(why) => Err(trouble(rt, why.line())),
             },
@@ -251,7 +287,7 @@ fn parsed(rt: &HostRuntime, words: &[String]) -> Result<Asked, u8> {
 }
 
 /// What is asked on the command line; else the exit status, where help or what is wrong was printed.
-pub fn read_words(rt: &HostRuntime) -> Result<Asked, u8> {
+pub fn read_words(rt: &HostRuntime) -> Result<Words, u8> {
     let arguments = match env::args(rt) {
         Ok(arguments) => arguments,
         Err(error) if error.kind() == io::ErrorKind::OutOfMemory => {

@@ -1,5 +1,5 @@
 //! Whole texts: what C calls to have one told in a world of its own.
-ghost use Rattle.std.specs.Prelude.{◌≡◌, IsUtf8, MatchResult, option_map, string_bytes};
+ghost use Rattle.std.specs.Prelude.{◌≡◌, IsUtf8, MatchResult, None, option_map, string_bytes};
 ghost use Rattle.hurd_dialogue.specs.Sorts.{running};
 ghost use Rattle.hurd_drawing.specs.Drawings.{drawing};
 ghost use Rattle.hurd_program.specs.Requests.{asked, sort_of};
@@ -74,14 +74,14 @@ pub extern "C" fn hurd_learn(
     who: &[u8],
     out: &mut [u8],
 ) -> Said
-    ensures { OfSome who.now sort (λ s. learning s who.now) text.now result out.old out.new }
+    ensures { OfSome who.now sort (λ s. learning s None who.now) text.now result out.old out.new }
 {
     let Some(sort) = sort_at(sort) else {
         return no_sort();
     };
     match named(alloc, who) {
         Ok(who) => {
-            let verb = Verb::Learn { who };
+            let verb = Verb::Learn { who, most: None };
             told(alloc, &Request { sort, verb }, text, out)
         }
         Err(fault) => ending(Err(fault), 0),
@@ -97,14 +97,14 @@ pub extern "C" fn hurd_see(
     who: &[u8],
     out: &mut [u8],
 ) -> Said
-    ensures { OfSome who.now sort (λ s. seeing s who.now) text.now result out.old out.new }
+    ensures { OfSome who.now sort (λ s. seeing s None who.now) text.now result out.old out.new }
 {
     let Some(sort) = sort_at(sort) else {
         return no_sort();
     };
     match named(alloc, who) {
         Ok(who) => {
-            let verb = Verb::See { who };
+            let verb = Verb::See { who, most: None };
             told(alloc, &Request { sort, verb }, text, out)
         }
         Err(fault) => ending(Err(fault), 0),

@@ -34,11 +34,11 @@ fn request(verb: &str, sort: &str, who: String) -> Option<Request> {
     match verb {
         "learn" => Some(Request {
             sort,
-            verb: Verb::Learn { who },
+            verb: Verb::Learn { who, most: None },
         }),
         "see" => Some(Request {
             sort,
-            verb: Verb::See { who },
+            verb: Verb::See { who, most: None },
         }),
         _ => None,
     }

@@ -14,12 +14,12 @@ use Rattle.hurd_program.specs.declared.request.Verb.TheVariants.{Run, Learn, See
 -- a text that is too long is bad at line 0, whatever is asked of it
 limited_of : (sort : TextSort) (verb : Verb) → HasLimit (asked_of (sort_of sort) verb).bad (asked_of (sort_of sort) verb).complaint
 limited_of Script Run = scripts_limited
-limited_of Script (Learn who) = scripts_limited
-limited_of Script (See who) = scripts_limited
+limited_of Script (Learn who most) = scripts_limited
+limited_of Script (See who most) = scripts_limited
 limited_of Script (Draw who) = scripts_limited
 limited_of Calls Run = lists_limited
-limited_of Calls (Learn who) = lists_limited
-limited_of Calls (See who) = lists_limited
+limited_of Calls (Learn who most) = lists_limited
+limited_of Calls (See who most) = lists_limited
 limited_of Calls (Draw who) = lists_limited
 
 pub limited : (request : Request) → HasLimit (asked request).bad (asked request).complaint
@@ -28,6 +28,6 @@ limited request = limited_of request.sort request.verb
 -- and what is said of a bad line is said for each sort
 pub complains : (sort : Sort) (verb : Verb) → sort.complaint ≡ (asked_of sort verb).complaint
 complains sort Run = refl
-complains sort (Learn who) = refl
-complains sort (See who) = refl
+complains sort (Learn who most) = refl
+complains sort (See who most) = refl
 complains sort (Draw who) = refl

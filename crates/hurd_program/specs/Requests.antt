@@ -27,8 +27,8 @@ sort_of Calls = lists
 -- what is told, that with what some learn, what they see at the end, or a picture of that
 abbrev pub asked_of : Sort → Verb → Program
 asked_of sort Run = running sort
-asked_of sort (Learn who) = learning sort (string_bytes who)
-asked_of sort (See who) = seeing sort (string_bytes who)
+asked_of sort (Learn who most) = learning sort most (string_bytes who)
+asked_of sort (See who most) = seeing sort most (string_bytes who)
 asked_of sort (Draw who) = drawing sort (option_map string_bytes who)
 
 abbrev pub asked : Request → Program

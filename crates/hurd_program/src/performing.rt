@@ -30,8 +30,8 @@ fn done_of<T: Telling, W: Write>(
 {
     match verb {
         Verb::Run => transcribe::<T, W>(alloc, text, output),
-        Verb::Learn { who } => learn_text::<T, W>(alloc, who.as_str(), text, output),
-        Verb::See { who } => see_text::<T, W>(alloc, who.as_str(), text, output),
+        Verb::Learn { who, most } => learn_text::<T, W>(alloc, who.as_str(), *most, text, output),
+        Verb::See { who, most } => see_text::<T, W>(alloc, who.as_str(), *most, text, output),
         Verb::Draw { who } => draw_text::<T, W>(alloc, who, text, output),
     }
 }
@@ -107,7 +107,7 @@ pub(crate) fn stranger_line(alloc: Global, request: &Request) -> Result<Vec<u8>,
 {
     match &request.verb {
         Verb::Run => Ok(Vec::new(alloc)),
-        Verb::Learn { who } | Verb::See { who } => {
+        Verb::Learn { who, most: _ } | Verb::See { who, most: _ } => {
             named_line(alloc, stranger(request.sort), who.as_str())
         }
         Verb::Draw { who: Some(who) } => named_line(alloc, stranger(request.sort), who.as_str()),

@@ -14,10 +14,11 @@ pub enum TextSort {
 pub enum Verb {
     /// What it tells: a transcript, or each call with its reply.
     Run,
-    /// That, and what some learn by what the others do. Here and below, these are users by their names, or tasks by their numbers, between commas.
-    Learn { who: String },
-    /// All that some see at the end.
-    See { who: String },
+    /// That, and what some learn by what the others do. Here and below, these are users by their names, or tasks by their numbers, between commas. Of a lesson,
+    /// and of what they see each time that the text asks, at most `most` bytes are printed.
+    Learn { who: String, most: Option<usize> },
+    /// All that some see at the end, of which at most `most` bytes are printed.
+    See { who: String, most: Option<usize> },
     /// A picture of the world at the end; it is marked what some see, if any are named.
     Draw { who: Option<String> },
 }

@@ -10,3 +10,4 @@ pub mod SayingLaws
 pub mod WatchLaws
 pub mod UnmovedLaws
 pub mod SeenLaws
+pub mod LimitLaws

@@ -14,6 +14,7 @@ use Rattle.hurd_lessons.proofs.OneLesson.{lesson_is_one, seen_is_one}
 use Rattle.hurd_terminal.specs.Faults.{IsFront}
 use Rattle.hurd_teaching.specs.Learners.{AreNamed, Speech, is_quiet, numbers, see_of, speech, verb_of}
 use Rattle.hurd_teaching.specs.Lessons.{LessonsOf, told_text}
+use Rattle.hurd_teaching.specs.Limits.{all_shortened, shortened, shortened_said}
 use Rattle.hurd_teaching.specs.Looks.{is_due}
 use Rattle.hurd_teaching.specs.Programs.{PrintsOneText, SeenAtEnd, learning, seeing}
 use Rattle.hurd_teaching.specs.Shown.{Front, FrontOfSome, Whole, last_of}
@@ -90,54 +91,62 @@ alike named called asked from l m x y = record {
     tasks : l.tasks.items ≡ m.tasks.items
     tasks = sym (numbers_back l.tasks.items) ∙ (ap (map (λ (n : ℕ). record { 0 = n })) same ∙ numbers_back m.tasks.items)
 
-module _ (thing : List ℕ) (w : World) (parts : List Part) (l m : Learners) (a : AreAlike l m) where
+module _ (most : Option ℕ) (thing : List ℕ) (w : World) (parts : List Part) (l m : Learners) (a : AreAlike l m) where
   -- the same is said of them
   moved : (t : List Said) → LessonsOf m.tasks.items (speech m) 0 w parts t → LessonsOf l.tasks.items (speech l) 0 w parts t
   moved t y =
       subst (λ (ts : List TaskId). LessonsOf ts (speech l) 0 w parts t) (sym a.tasks)
       (subst (λ (who : Speech). LessonsOf m.tasks.items who 0 w parts t) (sym (speech_same l m a)) y)
 
-  whole_once : (s t : List ℕ) → Whole l thing w parts s → Whole m thing w parts t → s ≡ t
+  whole_once : (s t : List ℕ) → Whole most l thing w parts s → Whole most m thing w parts t → s ≡ t
   whole_once s t x y =
       let same = lessons_once l.tasks.items (speech l) 0 w parts x.said y.said x.lessons (moved y.said y.lessons) in
       x.is
-      ∙ ((λ i. told_text parts (same i) ++ last_line (a.names i) thing (tally_from (record { others = 0; taught = 0 }) (same i)))
+      ∙ ((λ i. told_text parts (all_shortened most (speech_same l m a i) (same i)) ++ last_line (a.names i) thing (tally_from (record { others = 0; taught = 0 }) (same i)))
       ∙ sym y.is)
 
   -- of some first parts a front is printed
-  some_front : (f : List ℕ) (t : List Said) → FrontOfSome l w parts f → LessonsOf l.tasks.items (speech l) 0 w parts t → IsFront f (told_text parts t)
+  some_front : (f : List ℕ) (t : List Said) → FrontOfSome most l w parts f → LessonsOf l.tasks.items (speech l) 0 w parts t → IsFront f (told_text parts (all_shortened most (speech l) t))
   some_front f t some y =
       let it = lessons_front l.tasks.items (speech l) 0 w some.first some.left some.said t some.lessons (subst (λ (ps : List Part). LessonsOf l.tasks.items (speech l) 0 w ps t) some.split y) in
-      let more = printed_front (answers some.first) (answers some.left) some.said it.0 in (
+      let short : List Said → List Said = all_shortened most (speech l) in
+      let more = printed_front (answers some.first) (answers some.left) (short some.said) (short it.0) in (
         some.front.0 ++ more.0,
-        ap (λ (ps : List Part). told_text ps t) some.split
-            ∙ (ap (λ (ps : List Answer). printed ps t) (map-append (λ (p : Part). p.answer) some.first some.left)
-            ∙ (ap (printed (answers some.first ++ answers some.left)) it.1 ∙ (more.1 ∙ (ap (λ (u : List ℕ). u ++ more.0) some.front.1 ∙ append_assoc f some.front.0 more.0)))),
+        ap (λ (ps : List Part). told_text ps (short t)) some.split
+            ∙ (ap (λ (ps : List Answer). printed ps (short t)) (map-append (λ (p : Part). p.answer) some.first some.left)
+            ∙ (ap (λ (u : List Said). printed (answers some.first ++ answers some.left) (short u)) it.1
+            ∙ (ap (printed (answers some.first ++ answers some.left)) (map-append (shortened_said most (speech l)) some.said it.0)
+            ∙ (more.1 ∙ (ap (λ (u : List ℕ). u ++ more.0) some.front.1 ∙ append_assoc f some.front.0 more.0))))),
       )
 
-  front_once : (s t : List ℕ) → Front l thing w parts s → Whole m thing w parts t → IsFront s t
+  front_once : (s t : List ℕ) → Front most l thing w parts s → Whole most m thing w parts t → IsFront s t
   unfolding Front
   front_once s t (inl some) y =
       let it = some_front s y.said some (moved y.said y.lessons) in
-      (it.0 ++ last_of m thing y.said, y.is ∙ (ap (λ (u : List ℕ). u ++ last_of m thing y.said) it.1 ∙ append_assoc s it.0 (last_of m thing y.said)))
+      let last = last_of m thing y.said in (
+        it.0 ++ last,
+        y.is ∙ (ap (λ (who : Speech). told_text parts (all_shortened most who y.said) ++ last) (sym (speech_same l m a))
+            ∙ (ap (λ (u : List ℕ). u ++ last) it.1 ∙ append_assoc s it.0 last)),
+      )
   front_once s t (inr part) y = let same = whole_once part.0 t part.1 y in (part.2.0, sym same ∙ part.2.1)
 
-pub one_text_is_printed : (sort : Sort) (word : List ℕ) → PrintsOneText (learning sort word)
-one_text_is_printed sort word = record {
-  one = λ text s t x y. whole_once sort.thing (sort.world text) (sort.parts text) x.0 y.0 (alike _ _ _ _ x.0 y.0 x.1 y.1) s t x.2 y.2;
-  front = λ text s t x y. front_once sort.thing (sort.world text) (sort.parts text) x.0 y.0 (alike _ _ _ _ x.0 y.0 x.1 y.1) s t x.2 y.2;
+pub one_text_is_printed : (sort : Sort) (most : Option ℕ) (word : List ℕ) → PrintsOneText (learning sort most word)
+one_text_is_printed sort most word = record {
+  one = λ text s t x y. whole_once most sort.thing (sort.world text) (sort.parts text) x.0 y.0 (alike _ _ _ _ x.0 y.0 x.1 y.1) s t x.2 y.2;
+  front = λ text s t x y. front_once most sort.thing (sort.world text) (sort.parts text) x.0 y.0 (alike _ _ _ _ x.0 y.0 x.1 y.1) s t x.2 y.2;
 }
 
 -- and what some see at the end is one text, and any part of it a front
-seen_once : (sort : Sort) (word text s t : List ℕ) → SeenAtEnd sort word text s → SeenAtEnd sort word text t → s ≡ t
-seen_once sort word text s t x y =
+seen_once : (sort : Sort) (most : Option ℕ) (word text s t : List ℕ) → SeenAtEnd sort most word text s → SeenAtEnd sort most word text t → s ≡ t
+seen_once sort most word text s t x y =
     let a = alike _ _ _ _ x.0 y.0 x.1 y.1 in
     let w = last_world sort text in
-    let there = subst (λ (ts : List TaskId). Shows ts x.0.sees.items true w t) (sym a.tasks) (subst (λ (sees : List ℕ). Shows y.0.tasks.items sees true w t) (sym a.sees) y.2) in
-    shows_is_one x.0.tasks.items x.0.sees.items true w s t x.2 there
+    let there = subst (λ (ts : List TaskId). Shows ts x.0.sees.items true w y.2) (sym a.tasks) (subst (λ (sees : List ℕ). Shows y.0.tasks.items sees true w y.2) (sym a.sees) y.3) in
+    let same = shows_is_one x.0.tasks.items x.0.sees.items true w x.2 y.2 x.3 there in
+    x.4 ∙ ((λ i. shortened most (a.sees i) (same i)) ∙ sym y.4)
 
-pub one_sight_is_printed : (sort : Sort) (word : List ℕ) → PrintsOneText (seeing sort word)
-one_sight_is_printed sort word = record {
-  one = λ text s t x y. seen_once sort word text s t x y;
-  front = λ text s t x y. subst (IsFront s) (seen_once sort word text x.0 t x.1 y) x.2;
+pub one_sight_is_printed : (sort : Sort) (most : Option ℕ) (word : List ℕ) → PrintsOneText (seeing sort most word)
+one_sight_is_printed sort most word = record {
+  one = λ text s t x y. seen_once sort most word text s t x y;
+  front = λ text s t x y. subst (IsFront s) (seen_once sort most word text x.0 t x.1 y) x.2;
 }

@@ -12,6 +12,7 @@ use Rattle.hurd_terminal.specs.declared.fault.Fault.TheVariants.{Unknown, Write}
 use Rattle.hurd_terminal.specs.declared.print.Output.{Output}
 use Rattle.hurd_terminal.proofs.RunLaws.{adds_all, adds_part, adds_unknown}
 use Rattle.hurd_teaching.specs.Learners.{Named, tasks_named}
+use Rattle.hurd_teaching.specs.Limits.{shortened}
 use Rattle.hurd_teaching.specs.Looks.{asks_of, starts_of}
 use Rattle.hurd_teaching.specs.Programs.{AreThese, learning, seeing}
 use Rattle.hurd_teaching.specs.Shown.{NotShown, Shown}
@@ -41,23 +42,23 @@ module _ (sort : Sort) (text word : List ℕ) (way : Way) (begins : Begins sort 
     pub these : AreThese sort word text learners
     these = rw (finds_same, begins.heading) at named
 
-    taken : IsTaken (learning sort word) text
-    taken = record { good = begins.good; known = ap is_some these.tasks }
+    taken : (most : Option ℕ) → IsTaken (learning sort most word) text
+    taken most = record { good = begins.good; known = ap is_some these.tasks }
 
-    pub learned_adds : {W : Type 0} (output : Output W) (before after : Option (List ℕ)) (ended : Result (Unit {0}) Fault) → OnOk ended (Shown learners sort.thing way.world way.left before after)
-        → IfErr ended (λ fault. NotShown learners sort.thing way.world way.left output before fault after) → Adds (learning sort word) text before after ended
-    learned_adds output before after (Ok u) ok err =
-        let here : Shown learners sort.thing (sort.world text) (sort.parts text) before after = rw (begins.world, begins.left) at ok in
-        adds_all (learning sort word) before after text here.text u taken (learners, these, here.whole) here.appends
-    learned_adds output before after (Err fault) ok err =
-        let here : NotShown learners sort.thing (sort.world text) (sort.parts text) output before fault after = rw (begins.world, begins.left) at err in
-        adds_part (learning sort word) output before after text here.1.0 fault here.0 taken (learners, these, here.1.1) here.1.2
+    pub learned_adds : (most : Option ℕ) {W : Type 0} (output : Output W) (before after : Option (List ℕ)) (ended : Result (Unit {0}) Fault) → OnOk ended (Shown most learners sort.thing way.world way.left before after)
+        → IfErr ended (λ fault. NotShown most learners sort.thing way.world way.left output before fault after) → Adds (learning sort most word) text before after ended
+    learned_adds most output before after (Ok u) ok err =
+        let here : Shown most learners sort.thing (sort.world text) (sort.parts text) before after = rw (begins.world, begins.left) at ok in
+        adds_all (learning sort most word) before after text here.text u (taken most) (learners, these, here.whole) here.appends
+    learned_adds most output before after (Err fault) ok err =
+        let here : NotShown most learners sort.thing (sort.world text) (sort.parts text) output before fault after = rw (begins.world, begins.left) at err in
+        adds_part (learning sort most word) output before after text here.1.0 fault here.0 (taken most) (learners, these, here.1.1) here.1.2
 
     -- what they see at the end was printed, or a front of it
-    pub seen_adds : {W : Type 0} (output : Output W) (was : Bool) (before after : Option (List ℕ)) (ended : Result (Unit {0}) Fault) (whole : List ℕ)
-        → Shows learners.tasks.items learners.sees.items true (world_behind way.world way.left) whole → OnOk ended (Appends before after whole × (output.failed ≡ was))
-        → IfErr ended (λ fault. (fault ≡ Write) × (output.failed ≡ true) × AppendsFront before after whole) → Adds (seeing sort word) text before after ended
-    seen_adds output was before after ended whole shows ok err =
-        let there : Shows learners.tasks.items learners.sees.items true (last_world sort text) whole = rw (begins.world, begins.left) at shows in
-        adds_piece (seeing sort word) output was before after text whole ended (record { good = begins.good; known = ap is_some these.tasks }) (learners, these, there)
-        (λ front is. (whole, (learners, these, there), is)) ok err
+    pub seen_adds : (most : Option ℕ) {W : Type 0} (output : Output W) (was : Bool) (before after : Option (List ℕ)) (ended : Result (Unit {0}) Fault) (all whole : List ℕ)
+        → Shows learners.tasks.items learners.sees.items true (world_behind way.world way.left) all → whole ≡ shortened most learners.sees.items all → OnOk ended (Appends before after whole × (output.failed ≡ was))
+        → IfErr ended (λ fault. (fault ≡ Write) × (output.failed ≡ true) × AppendsFront before after whole) → Adds (seeing sort most word) text before after ended
+    seen_adds most output was before after ended all whole shows short ok err =
+        let there : Shows learners.tasks.items learners.sees.items true (last_world sort text) all = rw (begins.world, begins.left) at shows in
+        adds_piece (seeing sort most word) output was before after text whole ended (record { good = begins.good; known = ap is_some these.tasks }) (learners, these, all, there, short)
+        (λ front is. (whole, (learners, these, all, there, short), is)) ok err

@@ -1,5 +1,5 @@
 -- All that a program of learners prints is read in one way.
-use Rattle.std.proofs.Common.{◌≡◌, ◌∙◌, inl, inr, refl, sym, ap, ℕ, ◌==◌, Bool, true, false, true≢false, List, [], ◌∷◌, ◌++◌, append_assoc, map, length, decimal, codes, if◌then◌else◌, nat_lt, arith}
+use Rattle.std.proofs.Common.{◌≡◌, ◌∙◌, inl, inr, refl, sym, ap, ℕ, ◌==◌, Bool, true, false, true≢false, List, [], ◌∷◌, ◌++◌, append_assoc, length, decimal, codes, if◌then◌else◌, nat_lt, arith}
 use Rattle.std.proofs.lemmas.Bool.{cases_Bool, eqb-true, not_from_false}
 use Rattle.std.proofs.lemmas.List.{append_cancel_left}
 use Rattle.hurd_creds.specs.declared.name.TaskId.{TaskId}
@@ -50,7 +50,7 @@ line_end names thing t =
 
 -- no newline stands in it
 
-no_newline : (b : ℕ) → is_letter b ≡ true → is_other 10 b ≡ true
+pub no_newline : (b : ℕ) → is_letter b ≡ true → is_other 10 b ≡ true
 no_newline b letter = elim (cases_Bool (b == 10)) [
   | inl same ↦ absurd (true≢false (sym letter ∙ ap is_letter (eqb-true b 10 same)))
   | inr differ ↦ not_from_false (b == 10) differ

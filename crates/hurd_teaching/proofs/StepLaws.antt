@@ -1,5 +1,5 @@
 -- One part of a text that is watched.
-use Rattle.std.proofs.Common.{◌≡◌, ◌∙◌, refl, sym, ap, subst, inr, ℕ, Bool, true, false, true≢false, ◌+◌, List, ◌++◌, Option, Some, None}
+use Rattle.std.proofs.Common.{◌≡◌, ◌∙◌, refl, sym, ap, subst, inr, ℕ, Bool, true, false, true≢false, ◌+◌, List, Option, Some, None}
 use Rattle.std.specs.Prelude.{if◌then◌else◌}
 use Rattle.std.specs.Io.KnownBytes.{Appends}
 use Rattle.hurd_creds.specs.declared.name.TaskId.{TaskId}
@@ -7,13 +7,12 @@ use Rattle.hurd_machine.specs.World.{World}
 use Rattle.hurd_words.specs.declared.answers.Answer.{Answer}
 use Rattle.hurd_dialogue.specs.Parts.{Goes, Part, Way, next_task}
 use Rattle.hurd_views.specs.declared.view.View.{View}
-use Rattle.hurd_words.specs.Turns.{paragraph}
 use Rattle.hurd_lessons.specs.Told.{Lesson, Taught, counted}
 use Rattle.hurd_lessons.specs.declared.tally.Tally.{Tally}
 use Rattle.hurd_terminal.specs.Faults.{AppendsFront}
 use Rattle.hurd_teaching.specs.Learners.{Speech, is_next_quiet, is_quiet}
 use Rattle.hurd_teaching.specs.Looks.{is_due}
-use Rattle.hurd_teaching.specs.Shown.{StepsTo, StopsAt}
+use Rattle.hurd_teaching.specs.Shown.{StepsTo, StopsAt, part_text}
 use Rattle.hurd_teaching.specs.Telling.{SaysOf, Shows}
 use Rattle.hurd_teaching.specs.Watched.{LearnedSince, Learns, SeenOf, Sees, SeesOr}
 
@@ -56,10 +55,10 @@ module _ (tasks : List TaskId) (who : Speech) where
     this_shown = subst (λ (n : ℕ). Shows tasks who.sees (is_due who.looks n) new.world shown) goes.2 shows
 
     -- it was printed with that
-    pub part_told : (tally count : Tally) (now later : Option (List ℕ)) → Appends now later (paragraph part (text ++ shown)) → count ≡ (if quiet then tally else counted tally text)
-        → StepsTo tasks who old tally now true new after count later
+    pub part_told : (most : Option ℕ) (tally count : Tally) (now later : Option (List ℕ)) → Appends now later (part_text most who this text shown) → count ≡ (if quiet then tally else counted tally text)
+        → StepsTo most tasks who old tally now true new after count later
     unfolding StepsTo
-    part_told tally count now later adds counts = (
+    part_told most tally count now later adds counts = (
       this,
       goes.1,
       refl,
@@ -76,10 +75,10 @@ module _ (tasks : List TaskId) (who : Speech) where
     )
 
     -- or a front of it
-    pub part_cut : (now later : Option (List ℕ)) → AppendsFront now later (paragraph part (text ++ shown)) → StopsAt tasks who old now later
-    part_cut now later front = inr (this, new.left, goes.1, text, shown, this_lesson, this_shown, front)
+    pub part_cut : (most : Option ℕ) (now later : Option (List ℕ)) → AppendsFront now later (part_text most who this text shown) → StopsAt most tasks who old now later
+    part_cut most now later front = inr (this, new.left, goes.1, text, shown, this_lesson, this_shown, front)
 
   -- there was no part
-  pub none_told : (old new : Way) (tally : Tally) (now : Option (List ℕ)) (kept : Option View) → Goes old None new → StepsTo tasks who old tally now false new kept tally now
+  pub none_told : (most : Option ℕ) (old new : Way) (tally : Tally) (now : Option (List ℕ)) (kept : Option View) → Goes old None new → StepsTo most tasks who old tally now false new kept tally now
   unfolding StepsTo
-  none_told old new tally now kept none = (none.0, refl, refl)
+  none_told most old new tally now kept none = (none.0, refl, refl)

@@ -3,6 +3,7 @@ pub mod Learners
 pub mod Watched
 pub mod Telling
 pub mod Lessons
+pub mod Limits
 pub mod Shown
 pub mod Programs
 pub mod Reading

@@ -1,11 +1,12 @@
 -- What a program of learners prints of a text.
-use Rattle.std.specs.Prelude.{◌≡◌, ℕ, List, ◌++◌, codes, drop, is_some, true}
+use Rattle.std.specs.Prelude.{◌≡◌, ℕ, List, ◌++◌, Option, codes, drop, is_some, true}
 use Rattle.hurd_dialogue.specs.Sorts.{Sort, last_world}
 use Rattle.hurd_words.specs.Escapes.{escaped}
 use Rattle.hurd_terminal.specs.Faults.{IsFront}
 use Rattle.hurd_terminal.specs.Runs.{Program}
 use Rattle.hurd_words.specs.Lines.{lines_of}
 use Rattle.hurd_teaching.specs.Learners.{AreNamed, tasks_named}
+use Rattle.hurd_teaching.specs.Limits.{shortened}
 use Rattle.hurd_teaching.specs.Looks.{asks_of, starts_of}
 use Rattle.hurd_teaching.specs.Shown.{Front, Whole}
 use Rattle.hurd_teaching.specs.Telling.{Shows}
@@ -16,33 +17,35 @@ abbrev pub AreThese : Sort → List ℕ → List ℕ → Learners → Type 0
 AreThese sort word text learners =
     AreNamed (tasks_named (sort.finds text) word) (sort.called word) (drop (sort.heading text) (asks_of (lines_of text))) (starts_of (sort.heading text) (lines_of text)) learners
 
--- the program that prints a text with what those learn whom a word names
-abbrev pub learning : Sort → List ℕ → Program
-learning sort word = record {
+-- the program that prints a text with what those learn whom a word names: of each lesson, and of what they see each time that a text asks, at most so many
+-- bytes, if that is limited
+abbrev pub learning : Sort → Option ℕ → List ℕ → Program
+learning sort most word = record {
   complaint = sort.complaint;
   stranger = sort.stranger ++ (escaped word ++ codes "\n");
   bad = sort.bad;
   boot = sort.boot;
   known = λ text. is_some (tasks_named (sort.finds text) word);
-  IsAll = λ text printed. (learners : Learners) × AreThese sort word text learners × Whole learners sort.thing (sort.world text) (sort.parts text) printed;
-  IsPart = λ text printed. (learners : Learners) × AreThese sort word text learners × Front learners sort.thing (sort.world text) (sort.parts text) printed;
+  IsAll = λ text printed. (learners : Learners) × AreThese sort word text learners × Whole most learners sort.thing (sort.world text) (sort.parts text) printed;
+  IsPart = λ text printed. (learners : Learners) × AreThese sort word text learners × Front most learners sort.thing (sort.world text) (sort.parts text) printed;
 }
 
--- all that those see whom a word names is printed so, as they see it at the end of a text
-abbrev pub SeenAtEnd : Sort → List ℕ → List ℕ → List ℕ → Type 0
-SeenAtEnd sort word text printed =
-    (learners : Learners) × AreThese sort word text learners × Shows learners.tasks.items learners.sees.items true (last_world sort text) printed
+-- all that those see whom a word names is printed so, as they see it at the end of a text; or at most so many bytes of it
+abbrev pub SeenAtEnd : Sort → Option ℕ → List ℕ → List ℕ → List ℕ → Type 0
+SeenAtEnd sort most word text printed =
+    (learners : Learners) × AreThese sort word text learners
+    × (all : List ℕ) × Shows learners.tasks.items learners.sees.items true (last_world sort text) all × (printed ≡ shortened most learners.sees.items all)
 
 -- the program that prints that
-abbrev pub seeing : Sort → List ℕ → Program
-seeing sort word = record {
+abbrev pub seeing : Sort → Option ℕ → List ℕ → Program
+seeing sort most word = record {
   complaint = sort.complaint;
   stranger = sort.stranger ++ (escaped word ++ codes "\n");
   bad = sort.bad;
   boot = sort.boot;
   known = λ text. is_some (tasks_named (sort.finds text) word);
-  IsAll = SeenAtEnd sort word;
-  IsPart = λ text printed. (all : List ℕ) × SeenAtEnd sort word text all × IsFront printed all;
+  IsAll = SeenAtEnd sort most word;
+  IsPart = λ text printed. (all : List ℕ) × SeenAtEnd sort most word text all × IsFront printed all;
 }
 
 -- a program prints one text of each: all that is printed of a text is one, and any part of it is a front of that

@@ -1,7 +1,8 @@
 //! What it means that such outputs can be read back, and that what is printed is one text.
-ghost use Rattle.std.specs.Prelude.{ℕ, List};
+ghost use Rattle.std.specs.Prelude.{ℕ, List, Option};
 ghost use Rattle.hurd_dialogue.specs.Sorts.{Sort};
 ghost use Rattle.hurd_teaching.specs.Lessons.{LessonsAreSentences};
+ghost use Rattle.hurd_teaching.specs.Limits.{ShortenedAreSentences};
 ghost use Rattle.hurd_teaching.specs.Programs.{PrintsOneText, learning, seeing};
 ghost use Rattle.hurd_teaching.specs.Reading.{ReadBack};
 
@@ -12,15 +13,20 @@ pub fn outputs_are_read_back()
 
 /// A law: of a text one text is printed for those whom a word names.
 pub fn one_text_is_printed()
-    ensures { (sort : Sort) (word : List ℕ) → PrintsOneText (learning sort word) }
+    ensures { (sort : Sort) (most : Option ℕ) (word : List ℕ) → PrintsOneText (learning sort most word) }
 {}
 
 /// A law: of a text one text is printed of what those see at its end whom a word names.
 pub fn one_sight_is_printed()
-    ensures { (sort : Sort) (word : List ℕ) → PrintsOneText (seeing sort word) }
+    ensures { (sort : Sort) (most : Option ℕ) (word : List ℕ) → PrintsOneText (seeing sort most word) }
 {}
 
 /// A law: what is said and shown is sentences, so that an output can be read back.
 pub fn lessons_are_sentences()
     ensures { LessonsAreSentences }
+{}
+
+/// A law: so is what is printed of it, if that is limited.
+pub fn shortened_are_sentences()
+    ensures { ShortenedAreSentences }
 {}

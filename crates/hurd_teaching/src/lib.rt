@@ -9,6 +9,7 @@
 mod laws;
 mod learners;
 mod learning;
+mod limits;
 mod looks;
 mod naming;
 mod seeing;
@@ -19,6 +20,7 @@ mod watch;
 
 pub use laws::{
     lessons_are_sentences, one_sight_is_printed, one_text_is_printed, outputs_are_read_back,
+    shortened_are_sentences,
 };
 pub use learners::Learners;
 pub use learning::learn_text;

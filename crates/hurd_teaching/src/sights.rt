@@ -6,6 +6,7 @@ ghost use Rattle.hurd_teaching.specs.Programs.{seeing};
 ghost use Rattle.hurd_teaching.specs.Telling.{Shows};
 
 use crate::learners::Learners;
+use crate::limits::shortened;
 use crate::naming::learners_of;
 use crate::telling::shown;
 use hurd_creds::Bytes;
@@ -26,17 +27,19 @@ fn seen_at_end<T: Telling>(
     shown(alloc, telling.world(), learners, true)
 }
 
-/// Begins a text, and prints all that those see at its end whom a word names.
+/// Begins a text, and prints all that those see at its end whom a word names; or at most `most` bytes of it, in whole lines, and then a line that says how many
+/// bytes more there are.
 ///
 /// `Bad` with the line at which it is bad, `Boot` with its world's refusal, `Unknown` where somebody is named who isn't in it; `Memory`: then nothing is
 /// printed. `Write`: then a front is.
 pub fn see_text<T: Telling, W: Write>(
     alloc: Global,
     word: &str,
+    most: Option<usize>,
     text: &[u8],
     output: &mut Output<W>,
 ) -> Result<(), Fault>
-    ensures adds { Adds (seeing T.sort word.now) text.now (W.contents output.old.writer) (W.contents output.new.writer) result }
+    ensures adds { Adds (seeing T.sort most word.now) text.now (W.contents output.old.writer) (W.contents output.new.writer) result }
     ensures read { result ≢ Err Fault.Read }
     ensures write { result ≡ Err Fault.Write → output.new.failed ≡ true }
 {
@@ -45,5 +48,6 @@ pub fn see_text<T: Telling, W: Write>(
         return Err(Fault::Unknown);
     };
     let seen = seen_at_end(alloc, &mut *telling, &learners)?;
+    let seen = shortened(alloc, most, learners.sees.as_slice(), seen)?;
     output.print(seen.as_slice())
 }

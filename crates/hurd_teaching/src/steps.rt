@@ -47,13 +47,14 @@ fn looked<T: Telling>(
     Ok(quiet)
 }
 
-/// Tells the next part: prints its paragraph, its text, what these tasks learn by it, and what they see where that is asked for; and counts what they
-/// learn. Whether there was one.
+/// Tells the next part: prints its paragraph, its text, what these tasks learn by it, and what they see if that is asked for, of both at most so many bytes, if
+/// that is limited; and counts what they learn. Whether there was one.
 ///
 /// `Write` where it can't be written: then only some first bytes of it were; `Memory`.
 fn step<T: Telling, W: Write>(
     alloc: Global,
     telling: &mut T,
+    most: Option<usize>,
     learners: &Learners,
     watch: &mut Watch,
     tally: &mut Tally,
@@ -62,10 +63,10 @@ fn step<T: Telling, W: Write>(
     requires seen { SeenOf learners.now.tasks.items (T.way telling.old).world watch.old.seen }
     requires sound { Sound (T.way telling.old).world }
     ensures sound { OnOk result (Sound (T.way telling.new).world) }
-    ensures ok { IfOk result (λ more. StepsTo learners.now.tasks.items (speech learners.now) (T.way telling.old) tally.old (W.contents output.old.writer)
+    ensures ok { IfOk result (λ more. StepsTo most learners.now.tasks.items (speech learners.now) (T.way telling.old) tally.old (W.contents output.old.writer)
         more (T.way telling.new) watch.new.seen tally.new (W.contents output.new.writer)) }
     ensures err { IfErr result (λ fault. IsPrintFault output.new fault
-        × StopsAt learners.now.tasks.items (speech learners.now) (T.way telling.old) (W.contents output.old.writer) (W.contents output.new.writer)) }
+        × StopsAt most learners.now.tasks.items (speech learners.now) (T.way telling.old) (W.contents output.old.writer) (W.contents output.new.writer)) }
 {
     let quiet = looked(alloc, telling, learners, watch)?;
     let Some(answer) = telling.next(alloc)? else {
@@ -75,17 +76,20 @@ fn step<T: Telling, W: Write>(
     let said = said_if_moved(alloc, telling.world(), learners, watch, quiet, unmoved)?;
     let asked = learners.are_shown(telling.told());
     let shown = shown(alloc, telling.world(), learners, asked)?;
-    print_all(alloc, &answer, &said, &shown, output)?;
-    *tally = counted(*tally, quiet, &said);
+    let count = counted(*tally, quiet, &said);
+    print_all(alloc, most, learners, &answer, said, shown, output)?;
+    *tally = count;
     Ok(true)
 }
 
-/// Tells all parts that are left, each with what these tasks learn by it, and counts that. Nothing was seen yet.
+/// Tells all parts that are left, each with what these tasks learn by it, of which at most so many bytes are printed, if that is limited; and counts that.
+/// Nothing was seen yet.
 ///
 /// `Write` where something can't be written, `Memory`: then a front is printed.
 pub(crate) fn tell_all<T: Telling, W: Write>(
     alloc: Global,
     telling: &mut T,
+    most: Option<usize>,
     learners: &Learners,
     watch: &mut Watch,
     tally: &mut Tally,
@@ -93,14 +97,14 @@ pub(crate) fn tell_all<T: Telling, W: Write>(
 ) -> Result<(), Fault>
     requires anew { watch.old.seen ≡ None }
     requires sound { Sound (T.way telling.old).world }
-    ensures ok { OnOk result (ToldAll learners.now.tasks.items (speech learners.now) (T.way telling.old).told (T.way telling.old).world (T.way telling.old).left
+    ensures ok { OnOk result (ToldAll most learners.now.tasks.items (speech learners.now) (T.way telling.old).told (T.way telling.old).world (T.way telling.old).left
         tally.old (W.contents output.old.writer) tally.new (W.contents output.new.writer)) }
     ensures err { IfErr result (λ fault. IsPrintFault output.new fault
-        × ToldSome learners.now.tasks.items (speech learners.now) (T.way telling.old).told (T.way telling.old).world (T.way telling.old).left
+        × ToldSome most learners.now.tasks.items (speech learners.now) (T.way telling.old).told (T.way telling.old).world (T.way telling.old).left
         (W.contents output.old.writer) (W.contents output.new.writer)) }
 {
     'steps: loop {
-        if !step(alloc, telling, learners, watch, tally, output)? {
+        if !step(alloc, telling, most, learners, watch, tally, output)? {
             return Ok(());
         }
     }

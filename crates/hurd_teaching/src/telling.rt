@@ -5,10 +5,12 @@ ghost use Rattle.hurd_world.specs.Held.{world_of};
 ghost use Rattle.hurd_words.specs.Turns.{paragraph};
 ghost use Rattle.hurd_lessons.specs.Told.{counted};
 ghost use Rattle.hurd_terminal.specs.Faults.{AppendsFront, IsPrintFault};
+ghost use Rattle.hurd_teaching.specs.Limits.{shortened};
 ghost use Rattle.hurd_teaching.specs.Telling.{SaysOf, Shows};
 ghost use Rattle.hurd_teaching.specs.Watched.{SeenOf, Sees};
 
 use crate::learners::Learners;
+use crate::limits::shortened;
 use crate::seeing::view_of;
 use crate::watch::Watch;
 use hurd_creds::Bytes;
@@ -120,20 +122,25 @@ pub fn paragraph(
     Ok(text)
 }
 
-/// Prints a paragraph: an answer, what is said after it, and what is shown after that.
+/// Prints a paragraph: an answer, what is said after it, and what is shown after that, of each at most so many bytes, if that is limited.
 ///
 /// `Write`: then only some first bytes were printed; `Memory`, and then nothing was.
 pub(crate) fn print_all<W: Write>(
     alloc: Global,
+    most: Option<usize>,
+    learners: &Learners,
     answer: &Answer,
-    said: &Bytes,
-    shown: &Bytes,
+    said: Bytes,
+    shown: Bytes,
     output: &mut Output<W>,
 ) -> Result<(), Fault>
-    ensures ok { OnOk result (Appends (W.contents output.old.writer) (W.contents output.new.writer) (paragraph answer.now (said.now ++ shown.now))) }
-    ensures err { IfErr result (λ fault. IsPrintFault output.new fault
-        × AppendsFront (W.contents output.old.writer) (W.contents output.new.writer) (paragraph answer.now (said.now ++ shown.now))) }
+    ensures ok { OnOk result (Appends (W.contents output.old.writer) (W.contents output.new.writer)
+        (paragraph answer.now (shortened most learners.now.who.items said ++ shortened most learners.now.sees.items shown))) }
+    ensures err { IfErr result (λ fault. IsPrintFault output.new fault × AppendsFront (W.contents output.old.writer) (W.contents output.new.writer)
+        (paragraph answer.now (shortened most learners.now.who.items said ++ shortened most learners.now.sees.items shown))) }
 {
-    let text = paragraph(alloc, answer, said, shown)?;
+    let said = shortened(alloc, most, learners.who.as_slice(), said)?;
+    let shown = shortened(alloc, most, learners.sees.as_slice(), shown)?;
+    let text = paragraph(alloc, answer, &said, &shown)?;
     output.print(text.as_slice())
 }

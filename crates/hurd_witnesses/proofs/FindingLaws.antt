@@ -1,5 +1,5 @@
 -- What is printed of a text, with how some could be told each thing.
-use Rattle.std.proofs.Common.{◌≡◌, ◌≢◌, inl, true, ℕ, ◌-◌, List, [], Option, Some, Result, Ok, Err, refl}
+use Rattle.std.proofs.Common.{◌≡◌, ◌≢◌, inl, true, ℕ, ◌-◌, List, [], Option, Some, None, Result, Ok, Err, refl}
 use Rattle.std.specs.Prelude.{IfErr, IfOk, OnOk, Vec}
 use Rattle.std.specs.Global.{Global}
 use Rattle.std.specs.declared.alloc.AllocError.{AllocError}
@@ -31,7 +31,7 @@ module _ (sort : Sort) (word text : List ℕ) where
   none_for_memory = (λ e. absurd (cc e), λ e. absurd (cc e), inl refl)
 
   -- a fault of what was to be kept in memory
-  pub not_kept : (fault next : Fault) (printed : List ℕ) → (fault ≡ Write → next ≡ Memory) × (fault ≢ Write → next ≡ fault) → fault ≢ Read → Prints (learning sort word) text (Err fault) printed
+  pub not_kept : (fault next : Fault) (printed : List ℕ) → (fault ≡ Write → next ≡ Memory) × (fault ≢ Write → next ≡ fault) → fault ≢ Read → Prints (learning sort None word) text (Err fault) printed
       → NotKept sort word text next
   unfolding Prints
   not_kept Read next printed kept read prints = absurd (read refl)
@@ -42,8 +42,8 @@ module _ (sort : Sort) (word text : List ℕ) where
   not_kept Memory next printed kept read prints = rw (kept.1 (λ e. absurd (cc e))) none_for_memory
 
   -- all that was printed was kept
-  pub kept_all : (xs printed : List ℕ) (u : Unit {0}) → Appends (Some []) (Some xs) printed → Prints (learning sort word) text (Ok u) printed
-      → IsTaken (learning sort word) text × (learning sort word).IsAll text xs
+  pub kept_all : (xs printed : List ℕ) (u : Unit {0}) → Appends (Some []) (Some xs) printed → Prints (learning sort None word) text (Ok u) printed
+      → IsTaken (learning sort None word) text × (learning sort None word).IsAll text xs
   unfolding Prints
   kept_all xs printed u adds prints = rw (all_added xs printed adds) prints
 
@@ -52,7 +52,7 @@ module _ (sort : Sort) (word text : List ℕ) where
   pub no_memory_after : (before : Option (List ℕ)) → Adds (finding sort word) text before before (Err Memory)
   no_memory_after before = no_memory (finding sort word) before text
 
-  module _ (learned found : List ℕ) (taken : IsTaken (learning sort word) text) (all : (learning sort word).IsAll text learned) (is : IsWitnessed sort word text learned found) where
+  module _ (learned found : List ℕ) (taken : IsTaken (learning sort None word) text) (all : (learning sort None word).IsAll text learned) (is : IsWitnessed sort word text learned found) where
     taken_too : IsTaken (finding sort word) text
     taken_too = record { good = taken.good; known = taken.known }
 

@@ -1,5 +1,5 @@
 -- Of a text one text is printed with how some could be told each thing.
-use Rattle.std.proofs.Common.{◌≡◌, ◌∙◌, ℕ, ◌+◌, ◌==◌, List, [], ◌∷◌, if◌then◌else◌, length, refl, sym, subst, ap}
+use Rattle.std.proofs.Common.{◌≡◌, ◌∙◌, ℕ, ◌+◌, ◌==◌, List, [], ◌∷◌, None, if◌then◌else◌, length, refl, sym, subst, ap}
 use Rattle.hurd_dialogue.specs.Sorts.{Sort}
 use Rattle.hurd_teaching.specs.Programs.{PrintsOneText}
 use Rattle.hurd_teaching.proofs.OneText.{one_text_is_printed}
@@ -47,7 +47,7 @@ module _ (sort : Sort) (word text : List ℕ) where
 
   one_found : (s t : List ℕ) → Found sort word text s → Found sort word text t → s ≡ t
   one_found s t a b =
-      let learned : a.0 ≡ b.0 = (one_text_is_printed sort word).one text a.0 b.0 a.1 b.1 in
+      let learned : a.0 ≡ b.0 = (one_text_is_printed sort None word).one text a.0 b.0 a.1 b.1 in
       one_printed b.0 s t (subst (λ (l : List ℕ). IsWitnessed sort word text l s) learned a.2) b.2
 
 pub one_finding : (sort : Sort) (word : List ℕ) → PrintsOneText (finding sort word)

@@ -1,5 +1,5 @@
 -- Where two answers differ.
-use Rattle.std.proofs.Common.{◌≡◌, ◌≤◌, ◌+◌, ℕ, zero, suc, Bool, true, false, List, [], ◌∷◌, Some, None, drop, length, slice_get, refl, sym, ap, arith, if◌then◌else◌, append-nil}
+use Rattle.std.proofs.Common.{◌≡◌, ◌≤◌, ◌+◌, ℕ, zero, suc, Bool, true, false, List, [], ◌∷◌, drop, length, refl, ap, arith, if◌then◌else◌, append-nil}
 use Rattle.hurd_words.specs.Escapes.{escaped, escaped_byte}
 use Rattle.hurd_witnesses.specs.Answers.{first_difference, same_at, same_mark}
 use Rattle.hurd_witnesses.specs.declared.shown.Mark.{Mark}

@@ -1,5 +1,5 @@
 //! A text with what some learn of it, and how they could be told it.
-ghost use Rattle.std.specs.Prelude.{◌≡◌, ◌≢◌, ◌-◌, [], true, Err, IfErr, IfOk};
+ghost use Rattle.std.specs.Prelude.{◌≡◌, ◌≢◌, ◌-◌, [], true, Err, IfErr, IfOk, None};
 ghost use Rattle.hurd_teaching.specs.Programs.{learning};
 ghost use Rattle.hurd_terminal.specs.Runs.{Adds, IsTaken, Prints};
 ghost use Rattle.hurd_terminal.specs.declared.fault.Fault.{Fault};
@@ -27,11 +27,11 @@ fn kept_fault(fault: Fault) -> Fault
 
 /// What is printed of a text for those whom a word names. Faults as of `learn_text`, but `Memory` for `Write`.
 fn learned<T: Telling>(alloc: Global, word: &str, text: &[u8]) -> Result<Vec<u8>, Fault>
-    ensures ok { IfOk result (λ printed. IsTaken (learning T.sort word.now) text.now × (learning T.sort word.now).IsAll text.now printed.items) }
+    ensures ok { IfOk result (λ printed. IsTaken (learning T.sort None word.now) text.now × (learning T.sort None word.now).IsAll text.now printed.items) }
     ensures err { IfErr result (λ fault. (fault ≢ Fault.Read) × (fault ≢ Fault.Write) × Prints (finding T.sort word.now) text.now (Err fault) []) }
 {
     let mut kept = Output::new(Vec::new(alloc));
-    match learn_text::<T, Vec<u8>>(alloc, word, text, &mut kept) {
+    match learn_text::<T, Vec<u8>>(alloc, word, None, text, &mut kept) {
         Ok(()) => Ok(kept.writer),
         Err(fault) => Err(kept_fault(fault)),
     }

@@ -1,3 +1,4 @@
+use Rattle.std.specs.Prelude.{None}
 use Rattle.hurd_teaching.specs.Programs.{learning}
 use Rattle.hurd_program.specs.Requests.{sort_of}
 use Rattle.hurd_c.proofs.Unnamed.{says_none}
@@ -5,4 +6,4 @@ use Rattle.hurd_c.proofs.texts.hurd_learn.Goals as goal
 
 pub returns-in-Err : goal.returns-in-Err
 returns-in-Err c =
-    says_none c.args.who.now c.args.sort (λ s. learning s c.args.who.now) c.args.text.now c.args.out.now (sort_of c.in-Some.sort) c.in-Err.fault c.ending.result c.in-Some.ensures c.in-Err.ensures c.ending.ensures
+    says_none c.args.who.now c.args.sort (λ s. learning s None c.args.who.now) c.args.text.now c.args.out.now (sort_of c.in-Some.sort) c.in-Err.fault c.ending.result c.in-Some.ensures c.in-Err.ensures c.ending.ensures

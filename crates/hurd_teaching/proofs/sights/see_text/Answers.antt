@@ -9,26 +9,32 @@ use Rattle.hurd_teaching.proofs.sights.see_text.Goals as goal
 pub returns-in_err-telling-clause-adds : goal.returns-in_err-telling-clause-adds
 returns-in_err-telling-clause-adds g c =
     let p = err_from_is_err_and c.from_residual.result c.from_residual.ensures.1 in
-    rw (p.1, p.2) (not_begun_adds (seeing g.T.Telling.sort c.args.word.now) g.T.Telling.sort _ c.args.text.now c.in_err-telling.field-0.0 refl refl c.in_err-telling.ensures.err)
+    rw (p.1, p.2) (not_begun_adds (seeing g.T.Telling.sort c.args.most c.args.word.now) g.T.Telling.sort _ c.args.text.now c.in_err-telling.field-0.0 refl refl c.in_err-telling.ensures.err)
 
 pub returns-in_err-learners-clause-adds : goal.returns-in_err-learners-clause-adds
 returns-in_err-learners-clause-adds g c =
     let p = err_from_is_err_and c.from_residual-in_err-learners.result c.from_residual-in_err-learners.ensures.1 in
-    rw (p.1, p.2) (no_memory (seeing g.T.Telling.sort c.args.word.now) _ c.args.text.now)
+    rw (p.1, p.2) (no_memory (seeing g.T.Telling.sort c.args.most c.args.word.now) _ c.args.text.now)
 
 pub returns-in_err-seen-clause-adds : goal.returns-in_err-seen-clause-adds
 returns-in_err-seen-clause-adds g c =
     let p = err_from_is_err_and c.from_residual-in_err-seen.result c.from_residual-in_err-seen.ensures.1 in
-    rw (p.1, p.2) (no_memory (seeing g.T.Telling.sort c.args.word.now) _ c.args.text.now)
+    rw (p.1, p.2) (no_memory (seeing g.T.Telling.sort c.args.most c.args.word.now) _ c.args.text.now)
 
 pub returns-in_default-clause-adds : goal.returns-in_default-clause-adds
 returns-in_default-clause-adds g c =
     let none = rw (c.in_default.is, c.deref.ensures) at c.in_ok-learners.ensures in
-    nobody_adds g.T.Telling.sort c.args.text.now c.args.word.now (g.T.Telling.way c.in_ok-telling.telling.value) c.in_ok-telling.ensures.ok (seeing g.T.Telling.sort c.args.word.now) refl refl _ none
+    nobody_adds g.T.Telling.sort c.args.text.now c.args.word.now (g.T.Telling.way c.in_ok-telling.telling.value) c.in_ok-telling.ensures.ok (seeing g.T.Telling.sort c.args.most c.args.word.now) refl refl _ none
+
+pub returns-in_err-seen-2-clause-adds : goal.returns-in_err-seen-2-clause-adds
+returns-in_err-seen-2-clause-adds g c =
+    let p = err_from_is_err_and c.from_residual-in_err-seen-2.result c.from_residual-in_err-seen-2.ensures.1 in
+    rw (p.1, p.2) (no_memory (seeing g.T.Telling.sort c.args.most c.args.word.now) _ c.args.text.now)
 
 pub returns-clause-adds : goal.returns-clause-adds
 returns-clause-adds g c =
     let named = rw (c.in-Some.is, c.deref.ensures) at c.in_ok-learners.ensures in
     let shows = rw c.deref_mut.ensures.value at c.in_ok-seen.ensures in
-    seen_adds g.T.Telling.sort c.args.text.now c.args.word.now (g.T.Telling.way c.in_ok-telling.telling.value) c.in_ok-telling.ensures.ok c.in-Some.learners named c.print.new.self _ _ _ c.print.result _ shows
-    (rw c.as_slice.ensures at c.print.ensures.ok) (rw c.as_slice.ensures at c.print.ensures.err)
+    let short = rw c.as_slice.ensures.value at c.in_ok-seen-2.ensures in
+    seen_adds g.T.Telling.sort c.args.text.now c.args.word.now (g.T.Telling.way c.in_ok-telling.telling.value) c.in_ok-telling.ensures.ok c.in-Some.learners named c.args.most c.print.new.self _ _ _ c.print.result _ _ shows short
+    (rw c.as_slice-2.ensures at c.print.ensures.ok) (rw c.as_slice-2.ensures at c.print.ensures.err)

@@ -21,7 +21,7 @@ returns-in_err-answer-clause-err g c =
 pub returns-in_default-clause-ok : goal.returns-in_default-clause-ok
 returns-in_default-clause-ok g c =
     let goes = rw (c.in_ok-quiet.ensures.same, c.in_default.is) at c.in_ok-answer.ensures.goes in
-    none_told _ _ (g.T.Telling.way c.args.telling.now) (g.T.Telling.way c.next.new.self) c.args.tally.now _ _ goes
+    none_told _ _ c.args.most (g.T.Telling.way c.args.telling.now) (g.T.Telling.way c.next.new.self) c.args.tally.now _ _ goes
 
 pub returns-in_err-said-clause-err : goal.returns-in_err-said-clause-err
 returns-in_err-said-clause-err g c =
@@ -43,7 +43,7 @@ returns-in_err-print_all-clause-err g c =
     rw (p.1, p.2) (
       failed.0,
       part_cut c.args.learners.now.tasks.items (speech c.args.learners.now) (g.T.Telling.way c.args.telling.now) (g.T.Telling.way c.next.new.self) c.in-Some.answer goes c.in_ok-quiet.quiet c.looked.new.watch.seen c.said_if_moved.new.watch.seen
-          c.in_ok-said.said c.in_ok-shown.shown c.in_ok-quiet.ensures.quiet c.in_ok-quiet.ensures.sees says shows _ _ failed.1,
+          c.in_ok-said.said c.in_ok-shown.shown c.in_ok-quiet.ensures.quiet c.in_ok-quiet.ensures.sees says shows c.args.most _ _ failed.1,
     )
 
 pub returns-clause-ok : goal.returns-clause-ok
@@ -52,7 +52,7 @@ returns-clause-ok g c =
     let says = rw c.world.ensures at c.in_ok-said.ensures in
     let shows = rw (c.are_shown-asked.ensures, c.told.ensures, c.world-2.ensures) at c.in_ok-shown.ensures in
     part_told c.args.learners.now.tasks.items (speech c.args.learners.now) (g.T.Telling.way c.args.telling.now) (g.T.Telling.way c.next.new.self) c.in-Some.answer goes c.in_ok-quiet.quiet c.looked.new.watch.seen c.said_if_moved.new.watch.seen
-    c.in_ok-said.said c.in_ok-shown.shown c.in_ok-quiet.ensures.quiet c.in_ok-quiet.ensures.sees says shows c.args.tally.now c.counted.result _ _ c.in_ok-print_all.ensures.ok c.counted.ensures
+    c.in_ok-said.said c.in_ok-shown.shown c.in_ok-quiet.ensures.quiet c.in_ok-quiet.ensures.sees says shows c.args.most c.args.tally.now c.counted-count.result _ _ c.in_ok-print_all.ensures.ok c.counted-count.ensures
 
 -- where none of what was touched was seen, what was seen is what these see now
 pub said_if_moved-requires : goal.said_if_moved-requires
