@@ -348,7 +348,7 @@ const Beside = {
     $("beside").classList.toggle("kept", Boolean(this.first));
     if (run && run === this.drawn) return;
     this.drawn = run;
-    if (run) return run.status === 0 || run.status === 3 ? this.report(run, Read.report(Read.text(run.bytes))) : this.no_report(run);
+    if (run) return run.status === 0 || run.status === 3 ? this.report(run, Read.report(Read.decoder.decode(run.bytes))) : this.no_report(run);
     this.verdict("", Page.is_list() ? "Call lists cannot be compared" : "", Page.is_list() ? "This tab compares scripts of users\u2019 commands." : "");
     $("report").replaceChildren();
   },
@@ -405,11 +405,13 @@ const Beside = {
   // the reply in one script; lines that the other lacks are highlighted
   side(head, { command, lines }, other) {
     const made = element("figure"), text = element("div", "part"), others = new Set(other.lines.map(line => line.mark + line.text));
-    text.append(element("span", "command", command), ...lines.map(line => {
+    const fitted = Read.fit(lines, { lines: 500, characters: 50000 });
+    text.append(element("span", "command", command), ...fitted.shown.map((line, k) => {
       const shown = Page.line(line);
-      shown.classList.toggle("alone", !others.has(line.mark + line.text));
+      shown.classList.toggle("alone", !others.has(lines[k].mark + lines[k].text));
       return shown;
     }));
+    if (fitted.left_out) text.append(element("span", "sum", `${fitted.left_out} more lines are not shown.`));
     made.append(element("figcaption", "", head), text);
     return made;
   },

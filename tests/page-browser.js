@@ -25,8 +25,12 @@ function start() {
     waiting.set(id, answer => answer.error ? fail(new Error(method + ": " + answer.error.message)) : done(answer.result));
     ran.stdio[3].write(JSON.stringify({ id, method, params, sessionId }) + "\0");
   });
-  // its folder goes with it
-  const stop = () => new Promise(done => { ran.on("exit", () => { rmSync(own, { recursive: true, force: true, maxRetries: 5 }); done(); }); ran.kill("SIGKILL"); });
+  // its folder goes with it, once its other processes have ended
+  const stop = async () => {
+    await new Promise(done => { ran.on("exit", done); ran.kill("SIGKILL"); });
+    for (let k = 0; k < 100; k++) { try { return rmSync(own, { recursive: true, force: true }); } catch { await sleep(100); } }
+    console.log("page: in a browser: " + own + " is left");
+  };
   return { ask, stop };
 }
 
@@ -267,6 +271,13 @@ async function main() {
     const [slow_lines, lines_shown, lines_told] = await great("root settrans -ac n /hurd/hello --contents=" + "\\n".repeat(2000) + "\n" + "root cat n\n".repeat(90));
     says(`180,000 lines: ${slow_lines} ms, ${lines_shown} shown`, slow_lines < 4000 && lines_shown <= 4000 && /2000 more lines are not shown\./.test(lines_told));
     const [slow_bytes, , bytes_told] = await great("root settrans -ac z /hurd/zero\n" + "root cat z\n".repeat(20));
+    const pair = text => `user alice 1 1\nroot settrans -ac n /hurd/hello --contents=${text}\nalice cat n\n`;
+    await value(`Page.open(${JSON.stringify(pair("\\n".repeat(3000)))}, "script", ["alice"])`);
+    await value(`document.getElementById("keep").click()`);
+    await value(`Page.open(${JSON.stringify(pair("x".repeat(4000)))}, "script", ["alice"])`);
+    const sides = await value(`document.getElementById("report").textContent`), rows = await value(`document.querySelectorAll("#report .line").length`);
+    says(`great replies of two scripts: ${rows} lines`, rows <= 1002 && /2500 more lines are not shown\./.test(sides) && /\u2026 and 2000 more characters/.test(sides));
+    await value(`document.getElementById("let-go").click()`);
     says(`20 MiB of zeros: ${slow_bytes} ms, ${bytes_told.length} characters shown`, slow_bytes < 4000 && bytes_told.length < 500000 && /\u2026 and 1046576 more characters/.test(bytes_told));
 
     console.log(`page: the longest wait while 180,000 lines are shown ${slow_lines} ms, and 20 MiB of zeros ${slow_bytes} ms`);
