@@ -14,6 +14,7 @@ import sources
 
 HERE = os.path.dirname(os.path.abspath(__file__))
 TOP = os.path.dirname(HERE)
+NO_TOOLCHAIN = "assemble.py: there is no toolchain, so the page can't name the one that made its module"
 SCRIPTS = ["read.js", "machine.js", "tree.js", "lecture.js", "page.js"]
 FIRST = ["vote.hurd", "learned-secret.hurd", "learned-server.hurd", "learned-size.hurd", "learned-text.hurd", "learned-target.hurd", "strangers-file.hurd"]
 TITLES = {
@@ -26,6 +27,9 @@ TITLES = {
     "learned-full-tree.hurd": "Bob stores a letter where alice may not look, in a tree with a limit. How long is it?",
     "learned-view.hurd": "Everything that alice sees, before and after bob closes his home.",
 }
+# after which command an example opens that has no line `# from here`
+OPENS_AT = {"learned-emptiness.hurd": 6, "learned-name.hurd": 3, "learned-secret.hurd": 7, "learned-server.hurd": 5, "learned-size.hurd": 5, "learned-target.hurd": 10, "learned-trees.hurd": 9,
+            "learned-view.hurd": 7, "learned-words.hurd": 3}
 
 
 def text(*names):
@@ -43,8 +47,15 @@ def users(script):
     return [line.split()[1] for line in script.split("\n") if line.startswith("user ")]
 
 
+def first_step(script):
+    """After which command an example opens: the first one after `# from here`, if there is such a line; else none is named."""
+    before, mark, after = script.partition("\n# from here\n")
+    is_command = lambda line: line.strip() and not line.startswith(("#", "user "))
+    return len([line for line in before.split("\n") if is_command(line)]) + 1 if mark and any(map(is_command, after.split("\n"))) else None
+
+
 def examples():
-    """Each example: its name, what it shows, and who is chosen at first."""
+    """Each example: its name, what it shows, who is chosen at first, and after which command it opens."""
     names = sorted(name for name in os.listdir(os.path.join(TOP, "examples")) if name.endswith((".hurd", ".calls")))
     found = []
     for name in FIRST + [name for name in names if name not in FIRST]:
@@ -52,6 +63,9 @@ def examples():
         who = ["1"] if is_list else ["alice"] if "alice" in users(script) else ["root"]
         title = name.rsplit(".", 1)[0].replace("-", " ")
         found.append({"file": name, "title": title, "sort": "list" if is_list else "script", "who": who, "question": about(name, script), "text": script})
+        at = OPENS_AT.get(name) or (None if is_list else first_step(script))
+        if at:
+            found[-1]["at"] = at
     return found
 
 
@@ -82,7 +96,7 @@ def main():
     policy = "default-src 'none'; script-src " + hashed(script) + " 'wasm-unsafe-eval'; worker-src blob:; style-src " + hashed(style) + "; base-uri 'none'; form-action 'none'"
     page = text(HERE, "index.html")
     for mark, content in {
-        "<!-- policy -->": f'<meta http-equiv="Content-Security-Policy" content="{policy}">\n<meta name="sources" content="{sources.total()}">',
+        "<!-- policy -->": f'<meta http-equiv="Content-Security-Policy" content="{policy}">\n<meta name="sources" content="{sources.total()}">\n<meta name="toolchain" content="{sources.toolchain() or sys.exit(NO_TOOLCHAIN)}">',
         "<!-- style -->": f"<style>{style}</style>",
         "<!-- blocks -->": blocks + f"<script>{script}</script>",
     }.items():

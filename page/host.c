@@ -1,16 +1,29 @@
-/* What a program of this repository asks of its system, in a web page. The page gives standard input and the arguments beforehand. Standard output and
-   standard error are kept, each by itself. There is nothing else. */
+/* What the program asks of its system, in a web page or another host of WebAssembly. The host gives standard input, the arguments and the files beforehand.
+   Standard output and standard error are kept, each by itself. There is nothing else. */
 typedef unsigned long long u64;
 typedef long long i64;
 typedef unsigned long address;
 typedef unsigned char u8;
 typedef unsigned __int128 u128;
 
-enum { EBADF = 9, ENOSPC = 28, ESPIPE = 29, MOST_WORDS = 8, FIRST_ERRORS = 4096 };
+enum { ENOENT = 2, EBADF = 9, EISDIR = 21, EMFILE = 24, ENOSPC = 28, ESPIPE = 29 };
+enum { MOST_WORDS = 64, MOST_FILES = 64, FIRST_FILE = 3, FIRST_ERRORS = 4096 };
 
 struct text {
     const u8 *bytes;
     u64 length;
+};
+
+/* a file, and why it can't be read, if it can't */
+struct file {
+    struct text name, text;
+    int error;
+};
+
+/* what is left to read of a file that is open */
+struct reading {
+    struct text left;
+    int error, is_open;
 };
 
 /* what is written to a descriptor */
@@ -26,6 +39,9 @@ extern void give(void *);
 static struct text in;
 static struct text words[MOST_WORDS] = {{(const u8 *)"hurd", 4}}; /* the program's name first */
 static u64 word_count = 1;
+static struct file files[MOST_FILES];
+static struct reading readings[MOST_FILES];
+static u64 file_count;
 static u8 first_errors[FIRST_ERRORS]; /* so that the program can report that memory ran out */
 static struct kept out, err = {first_errors, 0, FIRST_ERRORS};
 static int last_error;
@@ -42,6 +58,12 @@ EXPORT("word") void word(u64 text, u64 length) {
     words[word_count++] = (struct text){(const u8 *)(address)text, length};
 }
 
+/* adds a file: its name and what is in it; or, by an error number, why it can't be opened: a folder (EISDIR) can be, and can't be read */
+EXPORT("file") void file(u64 name, u64 name_length, u64 text, u64 length, int error) {
+    if (file_count == MOST_FILES) __builtin_trap();
+    files[file_count++] = (struct file){{(const u8 *)(address)name, name_length}, {(const u8 *)(address)text, length}, error};
+}
+
 EXPORT("run") int run(void) { return hurd_main(); }
 EXPORT("output") u64 output(void) { return (address)out.bytes; }
 EXPORT("output_length") u64 output_length(void) { return out.length; }
@@ -53,14 +75,54 @@ static i64 fails(int error) {
     return -1;
 }
 
-i64 read(int from, u8 *to, u64 most) {
-    if (from != 0) return fails(EBADF);
-    u64 count = most < in.length ? most : in.length;
-    if (count) __builtin_memcpy(to, in.bytes, count);
-    in.bytes += count;
-    in.length -= count;
+/* takes at most so many bytes of what is left */
+static i64 take(struct text *left, u8 *to, u64 most) {
+    u64 count = most < left->length ? most : left->length;
+    if (count) __builtin_memcpy(to, left->bytes, count);
+    left->bytes += count;
+    left->length -= count;
     return (i64)count;
 }
+
+static struct reading *reading_of(int from) {
+    return from < FIRST_FILE || from >= FIRST_FILE + MOST_FILES || !readings[from - FIRST_FILE].is_open ? 0 : &readings[from - FIRST_FILE];
+}
+
+i64 read(int from, u8 *to, u64 most) {
+    if (from == 0) return take(&in, to, most);
+    struct reading *reading = reading_of(from);
+    if (!reading) return fails(EBADF);
+    return reading->error ? fails(reading->error) : take(&reading->left, to, most);
+}
+
+static int is_named(const struct file *file, const u8 *path) {
+    for (u64 i = 0; i < file->name.length; i++)
+        if (!path[i] || path[i] != file->name.bytes[i]) return 0;
+    return !path[file->name.length];
+}
+
+/* opens a file for reading; the program opens none otherwise */
+int open(const u8 *path, int flags, ...) {
+    u64 at = 0;
+    while (at < file_count && !is_named(&files[at], path)) at++;
+    if (at == file_count) return (int)fails(ENOENT);
+    if (files[at].error && files[at].error != EISDIR) return (int)fails(files[at].error);
+    for (int i = 0; i < MOST_FILES; i++) {
+        if (readings[i].is_open) continue;
+        readings[i] = (struct reading){files[at].text, files[at].error, 1};
+        return FIRST_FILE + i;
+    }
+    return (int)fails(EMFILE);
+}
+
+int close(int from) {
+    struct reading *reading = reading_of(from);
+    if (!reading) return (int)fails(EBADF);
+    reading->is_open = 0;
+    return 0;
+}
+
+int isatty(int from) { return 0; }
 
 /* whether `more` bytes can be added */
 static int keeps(struct kept *kept, u64 more) {

@@ -23,14 +23,15 @@ const Machine = {
     this.worker.postMessage({ module: this.bytes(this.block("module")) });
   },
 
-  // {status, bytes, errors, trap}
-  run(text, words) {
+  // {status, bytes, errors, trap}: of the program with these words, this text as standard input, and files, as [name, text]
+  run(text, words, files = []) {
     if (!this.worker) this.start();
     const id = this.next++;
     if (!this.waiting.size) this.began = Date.now();
     return new Promise(done => {
       this.waiting.set(id, done);
-      this.worker.postMessage({ id, text: this.encoder.encode(text), words: words.map(word => this.encoder.encode(word)) });
+      const encoded = text => this.encoder.encode(text);
+      this.worker.postMessage({ id, text: encoded(text), words: words.map(encoded), files: files.map(file => file.map(encoded)) });
     });
   },
 

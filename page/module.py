@@ -1,13 +1,15 @@
 #!/usr/bin/env python3
-"""module.py PROGRAM OUT.bc: keeps the LLVM module that rattle makes of a proved program of this checkout.
+"""module.py PROGRAM OUT.bc: proves and builds a program of this checkout, and keeps the LLVM module that rattle makes of it.
 
-`rattle build` takes the folder of a clang. The clang in the folder that this script makes keeps its input, and then compiles it as the kit's own does. Nothing
-else of the kit is changed, and nothing is made unless the program is proved.
+It does what `rt ci PROGRAM` does, in the same process: it proves the program, and those crates below it that no earlier run on this machine proved. What passes
+is kept for later runs. One thing is different: the clang that compiles the proved program keeps its input, and then does its work. So nothing is made unless
+the program is proved.
 """
 import functools
+import importlib.machinery
+import importlib.util
 import os
 import shutil
-import subprocess
 import sys
 import tempfile
 
@@ -18,40 +20,54 @@ exec {kit}/toolchain/bin/clang "$@"
 """
 
 
-def kit():
-    page = subprocess.run(["rt", "doc"], stdout=subprocess.PIPE, text=True, check=True).stdout.strip()
-    return os.path.dirname(page)
+def load_rt():
+    """The kit's own rt, as a Python module."""
+    found = shutil.which("rt")
+    if not found:
+        sys.exit("page/build: there is no toolchain: rt is not on the path")
+    loader = importlib.machinery.SourceFileLoader("kit_rt", os.path.realpath(found))
+    module = importlib.util.module_from_spec(importlib.util.spec_from_loader("kit_rt", loader))
+    loader.exec_module(module)
+    return module
 
 
-def keeping(at, room):
+def keeping(kit, room):
     """A toolchain whose clang keeps its input."""
     os.makedirs(f"{room}/bin")
-    os.symlink(f"{at}/toolchain/lib", f"{room}/lib")
-    for name in os.listdir(f"{at}/toolchain/bin"):
+    os.symlink(f"{kit}/toolchain/lib", f"{room}/lib")
+    for name in os.listdir(f"{kit}/toolchain/bin"):
         if name != "clang":
-            os.symlink(f"{at}/toolchain/bin/{name}", f"{room}/bin/{name}")
+            os.symlink(f"{kit}/toolchain/bin/{name}", f"{room}/bin/{name}")
     with open(f"{room}/bin/clang", "w", encoding="utf-8") as file:
-        file.write(CLANG.format(room=room, kit=at))
+        file.write(CLANG.format(room=room, kit=kit))
     os.chmod(f"{room}/bin/clang", 0o755)
+
+
+def keep_module(rt, name, room):
+    """Has rt prove this program anew, and compile it with that toolchain."""
+    give, compile_by = rt.Kept.give, rt.Crate.compile_by
+
+    @functools.wraps(give)
+    def give_others(kept, crate, tests, key):
+        return (tests or crate.name != name) and give(kept, crate, tests, key)
+
+    @functools.wraps(compile_by)
+    def compile_keeping(crate, backend, words, to):
+        if crate.name == name and backend == "llvm":
+            words = [room if before == "--toolchain" else word for before, word in zip([None, *words], words)]
+        return compile_by(crate, backend, words, to)
+
+    rt.Kept.give, rt.Crate.compile_by = give_others, compile_keeping
 
 
 def main():
     name, to = sys.argv[1], os.path.abspath(sys.argv[2])
-    at = kit()
-    sys.path.insert(0, f"{at}/bin")
-    import rtlib
-
-    # reads the files of a library once, not once for each way that leads to it
-    rtlib.Crate.stamp = functools.cache(rtlib.Crate.stamp)
-    os.chdir(f"{TOP}/crates/{name}")
-    crate = rtlib.Crate(os.getcwd(), TOP, {}, name=None)
-    for library in crate.below():
-        if not library.is_built():
-            sys.exit(f"page/build: {library.name} was not proved in this checkout as it stands: run 'rt ci' first")
+    rt = load_rt()
+    os.chdir(TOP)
     with tempfile.TemporaryDirectory() as room:
-        keeping(at, room)
-        words = [rtlib.RATTLE, "build", *crate.words([]), *rtlib.KEPT, "--toolchain", room, "--backend", "llvm", "-o", f"{room}/{name}.o"]
-        status = subprocess.run([*rtlib.guarded(), *words], stdin=subprocess.DEVNULL).returncode
+        keeping(rt.KIT, room)
+        keep_module(rt, name, room)
+        status = rt.main(["ci", name])
         if status:
             sys.exit(status)
         shutil.copy(f"{room}/kept.bc", to)

@@ -6,6 +6,7 @@ const Page = {
   examples: JSON.parse(Machine.block("examples")),
   help: JSON.parse(Machine.block("help-texts")),
   who: new Set(),
+  missed: new Set(), // those who were chosen, until the text lost them
   at: Infinity,
   turn: 0,
   tabs: ["told", "sees", "beside"],
@@ -14,7 +15,7 @@ const Page = {
 
   is_list: () => $("sort").value === "list",
   // runs the program over a text for the chosen ones: what they learn from it, or see at its end
-  run: (verb, text, who) => Machine.run(text, [verb, Page.is_list() ? "calls" : "script", who]),
+  run: (verb, text, who, ...flags) => Machine.run(text, [verb, ...flags, ...(Page.is_list() ? ["--calls"] : []), "--", who, "-"]),
 
   // lines up to a command
   cut: (text, commands, at) => text.split("\n").slice(0, commands[at - 1].at + 1).filter(line => !/^# (see|from here)$/.test(line)).join("\n") + "\n",
@@ -27,7 +28,7 @@ const Page = {
     this.slide(at, commands);
     document.body.dataset.ready = "no";
     const slow = setTimeout(() => { if (turn === this.turn) { this.say("running \u2026"); $("stop").hidden = false; } }, 150);
-    const whole = await this.run("learn", text, who);
+    const whole = await this.run("learn", text, who, ...($("how").checked && !this.is_list() ? ["--how"] : []));
     const upto = at && whole.status === 0 ? this.cut(text, commands, at) : null;
     const seen = upto && turn === this.turn ? await this.run("see", upto, who) : null;
     const all = upto && turn === this.turn ? await this.run("see", upto, everyone) : null;
@@ -44,7 +45,7 @@ const Page = {
     this.told(output, commands, at);
     const views = run => run && run.status === 0 ? Read.seen(Read.text(run.bytes)) : [];
     this.draw(views(all), views(seen), users);
-    this.sees(views(seen), who);
+    this.sees(views(seen), who, views(all));
     if (gone.length) this.say(`${this.is_list() ? "Task " : ""}${this.short(Read.shown(gone.join(", ")), 60)} ${gone.length > 1 ? "aren't" : "isn't"} in the ${this.is_list() ? "call list" : "script"}.`, true);
     document.body.dataset.ready = "yes";
     this.remember();
@@ -64,7 +65,7 @@ const Page = {
   nothing(why) {
     $("fault").hidden = false;
     $("fault").textContent = why;
-    for (const id of ["told", "sees", "picture"]) $(id).replaceChildren(element("p", "sum", "Nothing is shown."));
+    for (const id of ["replies", "sees", "picture"]) $(id).replaceChildren(element("p", "sum", "Nothing is shown."));
   },
 
   // whether the script ran; if not, shows why, at its line
@@ -77,14 +78,15 @@ const Page = {
     this.mark(text, [], 0, said.at);
     if (said.at >= 0) $("fault").append(element("br"), element("code", "", this.short(Read.ascii(text.split("\n")[said.at] || ""), 200)));
     if (run.status === 1) this.slide(0, []);
-    for (const id of ["told", "sees", "picture"]) $(id).replaceChildren(element("p", "sum", run.status === 1 ? "Nothing was run." : "The run did not end, so nothing of it is shown."));
+    for (const id of ["replies", "sees", "picture"]) $(id).replaceChildren(element("p", "sum", run.status === 1 ? "Nothing was run." : "The run did not end, so nothing of it is shown."));
     return false;
   },
 
   // a button for each user; returns the chosen ones who are not in the script
   chips(users) {
     const gone = [...this.who].filter(name => !users.has(name));
-    for (const name of gone) this.who.delete(name);
+    for (const name of gone) { this.who.delete(name); this.missed.add(name); }
+    for (const name of [...this.missed].filter(name => users.has(name))) { this.missed.delete(name); this.who.add(name); }
     if (!this.who.size && users.size) this.who.add(users.has("alice") ? "alice" : [...users.keys()].at(-1));
     const box = $("who"), said = JSON.stringify([...users.keys()]);
     if (box.dataset.said !== said) {
@@ -144,7 +146,7 @@ const Page = {
 
   told({ paragraphs, last }, commands, at) {
     const list = element("ol"), briefs = Read.brief(paragraphs, at), most = 1000;
-    paragraphs.forEach(({ reply, learned }, k) => {
+    paragraphs.forEach(({ reply, learned, found }, k) => {
       const item = element("li", "part" + (commands[k] && this.who.has(commands[k].who) ? " own" : "") + (k + 1 === at ? " now" : ""));
       const button = element("button", "command", reply.command);
       if (k + 1 === at) button.setAttribute("aria-current", "step");
@@ -153,13 +155,13 @@ const Page = {
       const forms = reply.lines.some(line => line.mark === "!" && line.text === "usage") && this.forms(reply.command);
       if (forms) item.append(element("span", "sum", forms));
       if (briefs[k].left_out) item.append(element("span", "sum", `${briefs[k].left_out} more lines are not shown.`));
-      item.append(...learned.slice(0, most).map(line => element("span", "learned", Read.shown(line))));
+      item.append(...learned.slice(0, most).flatMap((line, k) => [element("span", "learned", Read.shown(line)), ...(found[k] || []).map(line => element("span", "found", this.short(Read.shown(line), 2000)))]));
       if (learned.length > most) item.append(element("span", "sum", `${learned.length - most} more lessons are not shown.`));
       list.append(item);
     });
-    $("told").replaceChildren(list, element("p", "sum", last));
+    $("replies").replaceChildren(list, element("p", "sum", last));
     const now = list.querySelector(".now");
-    if (now) $("told").scrollTop = Math.max(0, Math.min(now.offsetTop - list.offsetTop - 8, now.offsetTop - list.offsetTop + now.offsetHeight - $("told").clientHeight / 2));
+    if (now) $("told").scrollTop = Math.max(0, Math.min(now.offsetTop - $("told").offsetTop - 8, now.offsetTop - $("told").offsetTop + now.offsetHeight - $("told").clientHeight / 2));
   },
 
   draw(all, seen, users) {
@@ -172,7 +174,16 @@ const Page = {
     return `Everything that ${this.is_list() ? who.includes(",") ? "tasks " : "task " : ""}${names} can see`;
   },
 
-  sees(seen, who) {
+  // what everybody together sees, and the chosen ones don't: the places alone
+  unseen(seen, all) {
+    const own = new Set(seen.map(([place]) => place)), places = all.map(([place]) => place).filter(place => place.startsWith("/") && !own.has(place)), most = 2000;
+    if (!places.length) return [];
+    const list = element("ul");
+    list.append(...places.slice(0, most).map(place => element("li", "", this.short(place, 20000))));
+    return [element("h3", "", "Not seen"), list, ...(places.length > most ? [element("p", "sum", `${places.length - most} more are not listed.`)] : [])];
+  },
+
+  sees(seen, who, all) {
     const table = element("table"), body = element("tbody");
     table.append(element("caption", "", seen.length ? this.sees_caption(who) : "Nothing is shown before the first command."), body);
     const most = 2000;
@@ -188,7 +199,7 @@ const Page = {
       row.append(rest);
       body.append(row);
     }
-    $("sees").replaceChildren(table);
+    $("sees").replaceChildren(table, ...this.unseen(seen, all));
   },
 
   go(at) { this.at = Math.max(0, at); return this.show(); },
@@ -204,6 +215,7 @@ const Page = {
   sorted() {
     $("commands").textContent = this.help[$("sort").value];
     $("keep").disabled = this.is_list();
+    $("how").disabled = this.is_list();
     $("text").setAttribute("aria-label", this.is_list() ? "the call list, one call per line" : "the script, one command per line");
   },
 
@@ -214,9 +226,18 @@ const Page = {
     $("about").textContent = about || "";
     $("who").dataset.said = "";
     this.sorted();
+    this.missed.clear();
     this.who = new Set(who || []);
     this.at = at === undefined ? Infinity : at;
     return this.show();
+  },
+
+  // a text that was edited is no example any more
+  own() {
+    const shown = this.examples.find(example => example.file === $("example").value);
+    if (!shown || shown.text === $("text").value) return;
+    $("example").selectedIndex = -1;
+    $("about").textContent = "Your own script.";
   },
 
   pick(file) {
@@ -259,7 +280,8 @@ const Page = {
     }
     $("example").onchange = () => this.pick($("example").value);
     $("sort").onchange = () => { this.sorted(); this.who.clear(); this.at = Infinity; this.show(); };
-    $("text").oninput = () => { clearTimeout(this.timer); this.at = Infinity; this.timer = setTimeout(() => this.show(), 250); };
+    $("text").oninput = () => { clearTimeout(this.timer); this.at = Infinity; this.own(); this.timer = setTimeout(() => this.show(), 250); };
+    $("how").onchange = () => this.show();
     $("text").onscroll = () => this.scroll();
     $("at").oninput = () => this.go(Number($("at").value));
     $("back").onclick = () => this.go(Number($("at").value) - 1);
@@ -281,10 +303,16 @@ const Page = {
     });
     document.addEventListener("keydown", event => {
       if (event.key === "Escape" && !$("stop").hidden) Machine.stop("it was stopped");
-      if (/^(TEXTAREA|SELECT)$/.test(event.target.tagName) || event.altKey || event.ctrlKey || event.metaKey) return;
+      if (!$("keys").checked || /^(TEXTAREA|SELECT)$/.test(event.target.tagName) || event.altKey || event.ctrlKey || event.metaKey) return;
       if (event.key === "j" && !$("on").disabled) $("on").click();
       if (event.key === "k" && !$("back").disabled) $("back").click();
     });
+    for (const link of document.querySelectorAll("nav a")) link.onclick = event => {
+      const head = $(link.getAttribute("href").slice(1));
+      event.preventDefault();
+      head.scrollIntoView();
+      head.focus();
+    };
     window.onhashchange = () => this.from_address();
     if (typeof WebAssembly === "undefined" || typeof Worker === "undefined") { this.say("This browser can't run the program: it lacks WebAssembly or workers.", true); return; }
     $("made").textContent = "Built from sources with the checksum " + document.querySelector("meta[name=sources]").content.slice(0, 16) + ".";
@@ -293,6 +321,9 @@ const Page = {
     this.from_address();
   },
 };
+
+// what the program calls the first script
+const FIRST = "the first script";
 
 // Two scripts side by side: the first is the one that was kept, the second is the one in the editor. The program reports whether the chosen ones can tell
 // them apart.
@@ -311,7 +342,7 @@ const Beside = {
   async run(text, who) {
     if (!this.first || Page.is_list()) return null;
     const asked = JSON.stringify([this.first.text, text, who]);
-    if (this.last.asked !== asked || this.last.run.trap) this.last = { asked, is_same: text === this.first.text, run: await Machine.run(text, ["compare", this.first.text, who]) };
+    if (this.last.asked !== asked || this.last.run.trap) this.last = { asked, is_same: text === this.first.text, run: await Machine.run(text, ["compare", "--", who, FIRST, "-"], [[FIRST, this.first.text]]) };
     return this.last.run;
   },
 

@@ -67,18 +67,20 @@ const Read = {
     return reply;
   },
 
-  // paragraphs {reply, learned, seen}: what is learned by lines, and what is seen by clauses; and the last line
+  // paragraphs {reply, learned, found, seen}: what is learned by lines, after each line how it could be found out, if that is told, and what is seen by clauses;
+  // and the last line
   output(text) {
     const reader = { lines: text.split("\n"), at: 0 }, { lines } = reader, paragraphs = [];
     if (lines.at(-1) === "") lines.pop();
     while (reader.at < lines.length - 1) {
-      const reply = this.reply(reader), learned = [], seen = [];
+      const reply = this.reply(reader), learned = [], found = [], seen = [];
       for (; reader.at < lines.length && lines[reader.at].startsWith("  "); reader.at++) {
         const line = lines[reader.at].slice(2), [head, ...clauses] = line.split(": ");
-        if (/ learns?$/.test(head)) learned.push(line); else seen.push(clauses);
+        if (line.startsWith("  ")) (found[learned.length - 1] ||= []).push(line.slice(2));
+        else if (/ learns?$/.test(head)) learned.push(line); else seen.push(clauses);
       }
       if (lines[reader.at] === "") reader.at++;
-      paragraphs.push({ reply, learned, seen });
+      paragraphs.push({ reply, learned, found, seen });
     }
     return { paragraphs, last: lines[reader.at] || "" };
   },

@@ -1,18 +1,22 @@
 #!/usr/bin/env python3
 """The checksum of what the page is made of: the code (src/) of its program and of all crates that it depends on, the examples, and page/. It does not use git.
 
-Definitions and proofs are not in it: they change nothing in the page.
+Definitions and proofs are not in it: they change nothing in the page. The toolchain isn't either, so that the checksum is the same where there is none; a page
+names its toolchain by itself.
 
-`sources.py` prints it; `sources.py PAGE` compares it with the checksum of the sources from which a page was made.
+`sources.py` prints it; `sources.py PAGE` compares it with the checksum of the sources from which a page was made, and the toolchain, if there is one, with that of
+the page.
 """
 import hashlib
 import os
 import re
+import shutil
+import subprocess
 import sys
 
 HERE = os.path.dirname(os.path.abspath(__file__))
 TOP = os.path.dirname(HERE)
-PROGRAM = "hurd_page"
+PROGRAM = "hurd"
 # not sources of the page: what is made, and folders of it
 MADE = {"out", "__pycache__", "must-fail"}
 
@@ -54,14 +58,28 @@ def total():
     return sums.hexdigest()
 
 
+def toolchain():
+    """The name of the toolchain that is here, or None."""
+    if not shutil.which("rt"):
+        return None
+    said = subprocess.run(["rt", "version"], stdout=subprocess.PIPE, stderr=subprocess.DEVNULL, text=True)
+    return said.stdout.strip() if said.returncode == 0 else None
+
+
 def made_of(page):
+    """The checksum of the sources from which a page was made, and its toolchain."""
     with open(page, encoding="utf-8") as file:
-        found = re.search(r'<meta name="sources" content="([0-9a-f]{64})">', file.read(100000))
-    return found and found[1]
+        head = file.read(100000)
+    found = [re.search(rf'<meta name="{name}" content="([^"<>]*)">', head) for name in ("sources", "toolchain")]
+    return [it and it[1] for it in found]
+
+
+def verdict(page):
+    made, by = made_of(page)
+    if made != total():
+        return "page: older than the program"
+    return "page: of this program" if toolchain() in (None, by) else "page: made by another toolchain"
 
 
 if __name__ == "__main__":
-    if len(sys.argv) == 1:
-        print(total())
-    else:
-        print("page: of this program" if made_of(sys.argv[1]) == total() else "page: older than the program")
+    print(total() if len(sys.argv) == 1 else verdict(sys.argv[1]))

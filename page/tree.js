@@ -136,6 +136,6 @@ const Tree = {
   // the picture in words, for whoever cannot see it
   told(nodes, marks) {
     const open = nodes.filter(row => marks.get(row.path) === "open").length, rim = nodes.filter(row => marks.get(row.path) === "rim").length;
-    return `The tree has ${nodes.length} nodes. The contents of ${open} are seen; of ${rim}, only the attributes are seen; ${nodes.length - open - rim} are not seen. The table under "Everything seen" lists the same.`;
+    return `The tree has ${nodes.length} nodes. The contents of ${open} are seen; of ${rim}, only the attributes are seen; ${nodes.length - open - rim} are not seen. The tab "Everything seen" lists both.`;
   },
 };

@@ -12,11 +12,12 @@ function put(exports, bytes) {
 }
 
 // {status, bytes, errors}: the exit status, standard output and standard error; also {trap} if the run could not end
-function run(text, words) {
+function run(text, words, files) {
   const { exports } = new WebAssembly.Instance(module, {}), kept = (at, length) => new Uint8Array(exports.memory.buffer, Number(at), Number(length)).slice();
   try {
     exports.input(...put(exports, text));
     for (const word of words) exports.word(...put(exports, word));
+    for (const [name, bytes] of files) exports.file(...put(exports, name), ...put(exports, bytes), 0);
     const status = exports.run();
     return { status, bytes: kept(exports.output(), exports.output_length()), errors: kept(exports.errors(), exports.errors_length()) };
   } catch (trap) {
@@ -26,6 +27,6 @@ function run(text, words) {
 
 onmessage = ({ data }) => {
   if (data.module) { module = new WebAssembly.Module(data.module); return; }
-  const done = run(data.text, data.words);
+  const done = run(data.text, data.words, data.files);
   postMessage({ id: data.id, ...done }, [done.bytes.buffer, done.errors.buffer]);
 };

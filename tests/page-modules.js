@@ -1,7 +1,8 @@
-// page-modules.js PAGE RANDOM: runs each script and call list by the module of the page, and by `hurd learn` and `hurd see` of the program that HURD names. It
-// compares output, standard error and status, for each user alone, for all, and for nobody; likewise pairs of scripts by `hurd compare`. Then it refuses memory.
+// page-modules.js PAGE RANDOM: runs each script and call list by the module of the page, and by the program that HURD names, with the same words and files. It
+// compares output, standard error and status: of `learn` and `see` for each user alone, for all, and for nobody; of `compare` for pairs of scripts; of each other
+// verb and flag for the examples. It does the same with ./hurd over node, which takes the files itself. Then it refuses memory.
 "use strict";
-const { mkdtempSync, readFileSync, readdirSync, rmSync, writeFileSync } = require("node:fs");
+const { mkdirSync, mkdtempSync, readFileSync, readdirSync, rmSync, writeFileSync } = require("node:fs");
 const { execFile } = require("node:child_process");
 const { cpus, tmpdir } = require("node:os");
 const { basename, join } = require("node:path");
@@ -10,56 +11,53 @@ const module_of_page = new WebAssembly.Module(Buffer.from(/id="module">([^<]*)</
 let passed = 0, failed = 0;
 const says = (what, good) => { if (good) passed++; else if (failed++ < 10) console.log("page: differs: " + what); };
 
-// runs the module, with three arguments, or with others
-function by_module(text, words, { pages, request } = {}) {
+const EISDIR = 21;
+
+// runs the module with these words, and with files: [name, bytes], or [name, null] for a folder
+function by_module(text, words, { files = [], pages, request } = {}) {
   const { exports } = new WebAssembly.Instance(module_of_page, {});
   const put = bytes => { const at = exports.room(BigInt(bytes.length + 1)); new Uint8Array(exports.memory.buffer).set(bytes, Number(at)); return [at, BigInt(bytes.length)]; };
   exports.input(...put(text));
   for (const word of words) exports.word(...put(Buffer.from(word)));
+  for (const [name, bytes] of files) exports.file(...put(Buffer.from(name)), ...put(bytes || Buffer.alloc(0)), bytes ? 0 : EISDIR);
   if (pages) exports.limit(BigInt(pages));
   if (request) exports.refuse(BigInt(request));
   const status = exports.run(), kept = (at, length) => Buffer.from(new Uint8Array(exports.memory.buffer, Number(at), Number(length)));
   return { status, out: kept(exports.output(), exports.output_length()), errors: kept(exports.errors(), exports.errors_length()), pages: exports.memory.buffer.byteLength / 65536, requests: Number(exports.requested()) };
 }
 
-const run_program = (words, text) => new Promise(done => {
-  const ran = execFile(process.env.HURD, words, { encoding: "buffer", maxBuffer: 1 << 28 }, (fault, out, errors) => done({ status: fault ? fault.code : 0, out, errors }));
+const run_by = (program, words, text) => new Promise(done => {
+  const ran = execFile(program, words, { encoding: "buffer", maxBuffer: 1 << 28 }, (fault, out, errors) => done({ status: fault ? fault.code : 0, out, errors }));
   ran.stdin.on("error", () => {}); // it may end before it has read all
   ran.stdin.end(text);
 });
+const run_program = (words, text) => run_by(process.env.HURD, words, text);
+const run_node = (words, text) => run_by(process.execPath, ["tools/by-node.js", page, ...words], text);
 
-// compares two texts in files; standard error then names them as the module does
+// where texts are that the program reads from a file
 const folder = mkdtempSync(join(tmpdir(), "page-"));
-let pairs = 0;
-async function compare_program(one, two, who) {
-  const first = join(folder, `one-${++pairs}`), second = join(folder, `two-${pairs}`);
-  writeFileSync(first, one);
-  writeFileSync(second, two);
-  const ran = await run_program(["compare", who, first, second], "");
-  for (const file of [first, second]) rmSync(file);
-  return { ...ran, errors: Buffer.from(ran.errors.toString("latin1").replaceAll(first, "the first script").replaceAll(second, "standard input"), "latin1") };
+let kept = 0;
+function in_file(text) {
+  const file = join(folder, `text-${++kept}`);
+  writeFileSync(file, text);
+  return [file, Buffer.from(text)];
 }
 
-const by_program = (text, [verb, word, who]) => verb === "compare" ? compare_program(word, text, who) : run_program([verb, ...(word === "calls" ? ["--calls"] : []), who, "-"], text);
-
-// arguments that ask nothing: the module prints nothing, and the status is 2
-const nothing = { status: 2, out: Buffer.alloc(0), errors: Buffer.alloc(0) };
-const is_text = word => Buffer.from(word).equals(Buffer.from(Buffer.from(word).toString()));
-const asks = words => words.length > 2 && words.every(is_text) && (words[0] === "compare" || (["learn", "see"].includes(words[0]) && ["script", "calls"].includes(words[1])));
 const is_same = (one, other) => one.status === other.status && one.out.equals(other.out) && one.errors.equals(other.errors);
 
 const runs = [];
-const compare = (sort, file, text, everybody) => { for (const who of everybody) for (const verb of ["learn", "see"]) runs.push({ file, text, words: [verb, sort, who] }); };
-const compare_pair = (file, one, two, everybody) => { for (const who of everybody) runs.push({ file, text: Buffer.from(two), words: ["compare", one, who] }); };
+const add = (name, text, words, { files = [], by_node = false } = {}) => runs.push({ name, text: Buffer.from(text), words, files, by_node });
+const compare = (sort, name, text, everybody) => { for (const who of everybody) for (const verb of ["learn", "see"]) add(name, text, [verb, ...(sort === "calls" ? ["--calls"] : []), "--", who, "-"]); };
+const compare_pair = (name, one, two, everybody) => { for (const who of everybody) { const first = in_file(one); add(name, two, ["compare", "--", who, first[0], "-"], { files: [first] }); } };
 const ended = { 0: 0, 1: 0, 2: 0, 3: 0 }; // how many pairs ended with each status
 
 // as many programs at once as there are processors
 async function compare_all() {
   const work = async () => {
     for (let run = runs.pop(); run; run = runs.pop()) {
-      const { file, text, words } = run, other = asks(words) ? await by_program(text, words) : nothing, one = by_module(text, words);
-      if (words[0] === "compare" && asks(words)) ended[one.status]++;
-      says(`${file}, ${words.map(word => String(word).slice(0, 40)).join(" ")}: status ${one.status} for ${other.status}, ${JSON.stringify(one.errors.toString().slice(0, 100))} for ${JSON.stringify(other.errors.toString().slice(0, 100))}`, is_same(one, other));
+      const { name, text, words, files, by_node } = run, other = await run_program(words, text), one = by_node ? await run_node(words, text) : by_module(text, words, { files });
+      if (words[0] === "compare") ended[one.status]++;
+      says(`${name}, ${words.map(word => String(word).slice(0, 40)).join(" ")}: status ${one.status} for ${other.status}, ${JSON.stringify(one.errors.toString().slice(0, 100))} for ${JSON.stringify(other.errors.toString().slice(0, 100))}`, is_same(one, other));
     }
   };
   await Promise.all(cpus().map(work));
@@ -90,7 +88,30 @@ compare("script", "welcome.hurd", script, names);
 compare("calls", "learned-cut.calls", list, names);
 compare("calls", "welcome.hurd", script, ["0"]);
 compare("script", "learned-cut.calls", list, ["root"]);
-for (const words of [[], ["learn"], ["script", "root"], ["learn", "script"], ["see", "calls"], ["learn", "list", "root"], ["draw", "script", "root"], ["learns", "script", "root"], ["tell", script, "root"], ["compare", ""], ["compare", Buffer.from([0xff]), "root"], ["", "", ""]]) runs.push({ file: "welcome.hurd", text: script, words });
+for (const words of [[], ["learn"], ["learn", "root"], ["learn", "root", "-", "-"], ["see", "--calls", "root"], ["frob", "root", "-"], ["learns", "root", "-"], ["compare", ""], ["compare", "root", "-", "-"], ["", "", ""], ["run", "--frob", "-"], ["run", "-", "--", "-"],
+  ["--help"], ["--version"], ["help"], ["help", "learn"], ["help", "frob"], ...["run", "learn", "see", "draw", "compare", "sample"].map(verb => [verb, "--help"])]) {
+  for (const by_node of [false, true]) add("welcome.hurd", script, words, { by_node });
+}
+
+// files: an example of each sort with each verb; one that isn't there, a folder, and texts that are too long
+const here = join(folder, "a folder"), none = join(folder, "nothing here");
+mkdirSync(here);
+const asked = (name, text) => name.endsWith(".calls") ? [["run"], ["run", "--json"], ["draw"], ["draw", "--as", "1"], ["learn", "1"], ["see", "1"], ["learn", "--how", "1"]]
+  : [["run"], ["run", "--json"], ["draw"], ["draw", "--as", users_of(text).join(",")], ["learn", "root"], ["learn", "--max-look", "300", "root"], ["run", "--max-output", "100"], ["see", "root"]];
+for (const file of [...files("examples", ".hurd"), ...files("examples", ".calls")]) {
+  const text = readFileSync(file);
+  for (const words of asked(file, text)) add(basename(file), "", [...words, file], { files: [[file, text]] });
+}
+add("vote.hurd", "", ["learn", "--how", "alice", "examples/vote.hurd"], { files: [["examples/vote.hurd", readFileSync("examples/vote.hurd")]] });
+const too_long = in_file(long + "\n"), far_too_long = in_file("#".repeat(1 << 22));
+for (const file of ["examples/vote.hurd", "examples/pipe.calls", too_long[0], far_too_long[0], none, here]) {
+  for (const words of [["run", file], ["run", "--", file], ["see", "alice", file], ["compare", "alice", "examples/vote.hurd", file], ["compare", "alice", file, "-"], ["draw", "--as", "alice", file]]) {
+    const named = [...new Set(words)].filter(word => word === file || word.startsWith("examples/"));
+    add("a file", script, words, { files: named.filter(name => name !== none).map(name => [name, name === here ? null : readFileSync(name)]) });
+    add("a file, by node", script, words, { by_node: true });
+  }
+}
+for (const words of [["sample", "7"], ["sample", "7", "40"], ["sample", "--calls", "7", "40"], ["sample", "-1"], ["sample", "x"]]) for (const by_node of [false, true]) add("a sample", "", words, { by_node });
 
 // pairs of scripts: examples in both orders and with themselves, and each example with the next
 const example = name => readFileSync(`examples/${name}.hurd`, "utf8"), with_returns = text => text.replaceAll("\n", "\r\n");
@@ -138,8 +159,8 @@ says(`${changed} random scripts were changed`, changed === 100);
 // Without memory, a run has status 2, prints a beginning of the output, and says why on standard error; or it prints the whole output if it needed no more memory.
 // Each request for memory in runs of some small texts is refused in turn; runs of some large texts get fewer and fewer pages.
 let refused = 0;
-function refuses(text, words, whole, how) {
-  const run = by_module(text, words, how), line = run.errors.toString("latin1");
+function refuses(text, words, files, whole, how) {
+  const run = by_module(text, words, { files, ...how }), line = run.errors.toString("latin1");
   const is_refused = run.status === 2 && whole.out.subarray(0, run.out.length).equals(run.out) && (line === "hurd: out of memory\n" || (!how.request && line === "hurd: cannot write\n"));
   says(`${words.map(word => word.slice(0, 40)).join(" ")} with ${JSON.stringify(how)}: status ${run.status}, ${JSON.stringify(line.slice(0, 100))}`, is_refused || is_same(run, whole));
   if (run.status === 2) refused++;
@@ -147,19 +168,20 @@ function refuses(text, words, whole, how) {
 
 function refuse_memory() {
   const before = failed, bytes = "x".repeat(3000);
-  const bad = good + "alice frob\n", different = good.replace("ls /", "ls -d /"), small = [["examples/hello.hurd", "script", "alice"], ["examples/union.hurd", "script", "root"], ["examples/learned-cut.calls", "calls", "1"]];
-  const asked = small.flatMap(([file, ...words]) => ["learn", "see"].map(verb => [readFileSync(file), verb, ...words]));
-  for (const [one, two, who] of [[example("secret-told"), example("secret-told-otherwise"), "alice,guest"], [example("started-by-alice"), example("started-by-bob"), "alice"], [good, different, "alice"], [good, bad, "alice"], [bad, good, "alice"], [good, good, "nobody"]]) asked.push([two, "compare", one, who]);
-  for (const [text, ...words] of asked) {
-    const whole = by_module(text, words);
-    for (let request = 1; request <= whole.requests; request++) refuses(text, words, whole, { request });
+  const bad = good + "alice frob\n", different = good.replace("ls /", "ls -d /");
+  const asked = [["examples/hello.hurd", "alice"], ["examples/union.hurd", "root"], ["examples/learned-cut.calls", "--calls", "1"]].flatMap(([file, ...words]) => ["learn", "see"].map(verb => [readFileSync(file), [verb, ...words, "-"], []]));
+  for (const [one, two, who] of [[example("secret-told"), example("secret-told-otherwise"), "alice,guest"], [example("started-by-alice"), example("started-by-bob"), "alice"], [good, different, "alice"], [good, bad, "alice"], [bad, good, "alice"], [good, good, "nobody"]]) asked.push([Buffer.from(two), ["compare", who, "ONE", "-"], [["ONE", Buffer.from(one)]]]);
+  for (const [text, words, files] of asked) {
+    const whole = by_module(text, words, { files });
+    for (let request = 1; request <= whole.requests; request++) refuses(text, words, files, whole, { request });
   }
   const script = "user alice 1000 1000\n" + Array.from({ length: 250 }, (_, k) => `root put /f${k} ${bytes}\n`).join("") + "alice ls /\nalice cat /f7\n# see\n";
   const list = "task 0 0\ntask 1000 1000\n" + Array.from({ length: 120 }, (_, k) => `0 dir_lookup 1 =f${k} CREATE,WRITE 644\n0 io_write ${k + 3} =${bytes} 0\n`).join("") + "1 dir_lookup 1 = READ 0\n# see\n";
-  for (const [made, ...words] of [[script, "learn", "script", "alice"], [script, "learn", "script", "root"], [list, "learn", "calls", "1"], [script, "see", "script", "alice"], [list, "see", "calls", "1"], [script, "compare", script.replace("/f7 xx", "/f7 yy"), "alice"]]) {
-    const text = Buffer.from(made), whole = by_module(text, words), floor = new WebAssembly.Instance(module_of_page, {}).exports.memory.buffer.byteLength / 65536;
-    says(`${words.map(word => word.slice(0, 40)).join(" ")} with ample memory: status ${whole.status}`, whole.status === (words[0] === "compare" ? 3 : 0) && !whole.errors.length);
-    for (let pages = floor + 24; pages <= whole.pages; pages += 4) refuses(text, words, whole, { pages });
+  const other = [["ONE", Buffer.from(script.replace("/f7 xx", "/f7 yy"))]];
+  for (const [made, words, files] of [[script, ["learn", "alice", "-"], []], [script, ["learn", "root", "-"], []], [list, ["learn", "--calls", "1", "-"], []], [script, ["see", "alice", "-"], []], [list, ["see", "--calls", "1", "-"], []], [script, ["compare", "alice", "ONE", "-"], other]]) {
+    const text = Buffer.from(made), whole = by_module(text, words, { files }), floor = new WebAssembly.Instance(module_of_page, {}).exports.memory.buffer.byteLength / 65536;
+    says(`${words.join(" ")} with ample memory: status ${whole.status}`, whole.status === (words[0] === "compare" ? 3 : 0) && !whole.errors.length);
+    for (let pages = floor + 24; pages <= whole.pages; pages += 4) refuses(text, words, files, whole, { pages });
   }
   says("memory was refused in no run", refused > 20);
   console.log(`page: memory refused ${refused} times, ${failed - before} runs ended in a wrong way`);

@@ -102,9 +102,11 @@ part_added (b ∷ words) part (inr clause) fit =
 noted_said : (words word changed : List ℕ) (b : Became) → (words ≡ []) ⊎ IsClauseText words → fits word ≡ true → (changed ≡ []) ⊎ IsClauseText changed
     → (noted words word changed b ≡ []) ⊎ IsClauseText (noted words word changed b)
 noted_said words word changed became.Same said fit turned = said
-noted_said words word changed became.New said fit turned = inr (part_added words word said fit)
 noted_said words word changed became.Changed said fit turned = turned
+noted_said words word changed became.New said fit turned = inr (part_added words (word ++ []) said (both_fit word [] fit refl))
 noted_said words word changed became.Lost said fit turned = inr (part_added words (word ++ codes " no longer seen") said (both_fit word (codes " no longer seen") fit refl))
+noted_said words word changed became.First said fit turned = inr (part_added words (word ++ codes " only in the first") said (both_fit word (codes " only in the first") fit refl))
+noted_said words word changed became.Second said fit turned = inr (part_added words (word ++ codes " only in the second") said (both_fit word (codes " only in the second") fit refl))
 
 body_word_fits : (x y : Row) → fits (body_word x y) ≡ true
 body_word_fits x y = go (is_listing x.body) (is_listing y.body)
@@ -226,21 +228,21 @@ bytes_change_fits old new = go (nat_le (length old) 24 && nat_le (length new) 24
         (both_fit (spelled_or_none old) (codes " -> " ++ spelled_or_none new) (spelled_or_none_fits old) (both_fit (codes " -> ") (spelled_or_none new) refl (spelled_or_none_fits new)))
     go false = refl
 
-changed_body_fits : (x y : BodyRow) → fits (changed_body x y) ≡ true
-changed_body_fits (body.Entries old) (body.Entries new) =
-    both_fit (codes "entries") (signed_names (codes " + ") (entries_new old new) ++ signed_names (codes " - ") (entries_gone old new)) refl
-    (both_fit (signed_names (codes " + ") (entries_new old new)) (signed_names (codes " - ") (entries_gone old new)) (signed_fit (codes " + ") (entries_new old new) refl)
-    (signed_fit (codes " - ") (entries_gone old new) refl))
-changed_body_fits (body.Bytes old) (body.Bytes new) = bytes_change_fits old new
-changed_body_fits (body.Bytes old) (body.Entries new) = refl
-changed_body_fits (body.Entries old) (body.Bytes new) = refl
+changed_body_fits : (t : Bool) (x y : BodyRow) → fits (changed_body t x y) ≡ true
+changed_body_fits t (body.Entries old) (body.Entries new) =
+    both_fit (codes "entries") (signed_names (codes " + ") (entries_new t old new) ++ signed_names (codes " - ") (entries_gone t old new)) refl
+    (both_fit (signed_names (codes " + ") (entries_new t old new)) (signed_names (codes " - ") (entries_gone t old new)) (signed_fit (codes " + ") (entries_new t old new) refl)
+    (signed_fit (codes " - ") (entries_gone t old new) refl))
+changed_body_fits t (body.Bytes old) (body.Bytes new) = bytes_change_fits old new
+changed_body_fits t (body.Bytes old) (body.Entries new) = refl
+changed_body_fits t (body.Entries old) (body.Bytes new) = refl
 
-body_change_fits : (x y : Option (Option BodyRow)) → fits (body_change x y) ≡ true
-body_change_fits (Some (Some x)) (Some (Some y)) = changed_body_fits x y
-body_change_fits (Some (Some x)) (Some None) = refl
-body_change_fits (Some (Some x)) None = refl
-body_change_fits (Some None) y = refl
-body_change_fits None y = refl
+body_change_fits : (t : Bool) (x y : Option (Option BodyRow)) → fits (body_change t x y) ≡ true
+body_change_fits t (Some (Some x)) (Some (Some y)) = changed_body_fits t x y
+body_change_fits t (Some (Some x)) (Some None) = refl
+body_change_fits t (Some (Some x)) None = refl
+body_change_fits t (Some None) y = refl
+body_change_fits t None y = refl
 
 empty_change_fits : (e : Option (Option Bool)) → fits (empty_change e) ≡ true
 empty_change_fits (Some (Some true)) = refl
@@ -350,7 +352,7 @@ parts_said a b x y c =
     let first : (one ≡ []) ⊎ IsClauseText one = noted_said [] (codes "attributes") _ c.attributes (inl refl) refl (node_said a b [] x.attributes y.attributes (inl refl)) in
     let ends : (told ≡ []) ⊎ IsClauseText told = noted_said one (codes "readers and writers") _ (ends_beside c.body c.ends) first refl (ends_said one x.ends y.ends first) in
     let second : (two ≡ []) ⊎ IsClauseText two =
-    noted_said told (body_word x y) _ c.body ends (body_word_fits x y) (part_said told (Some (body_change x.body y.body)) ends (λ t. some_fits (body_change x.body y.body) t (body_change_fits x.body y.body))) in
+    noted_said told (body_word x y) _ c.body ends (body_word_fits x y) (part_said told (Some (body_change c.by_name x.body y.body)) ends (λ t. some_fits (body_change c.by_name x.body y.body) t (body_change_fits c.by_name x.body y.body))) in
     let third : (three ≡ []) ⊎ IsClauseText three =
     noted_said two (codes "emptiness") _ (emptiness c.body c.empty) second refl (part_said two (Some (empty_change y.empty)) second (λ t. some_fits (empty_change y.empty) t (empty_change_fits y.empty))) in
     let fourth : (four ≡ []) ⊎ IsClauseText four = noted_said three (codes "open") _ c.opened third refl (open_said three x.opened y.opened third) in

@@ -45,8 +45,8 @@ turned_once (Some x) (Some y) b d (inr s) (inr t) = s.1 ∙ sym t.1
 rows_equal : (x y : Row) → x.attributes ≡ y.attributes → x.body ≡ y.body → x.ends ≡ y.ends → x.empty ≡ y.empty → x.opened ≡ y.opened → x.server ≡ y.server → x.text ≡ y.text → x.users ≡ y.users → x.total ≡ y.total → x ≡ y
 rows_equal x y a b h c d e f g j = λ i. record { attributes = a i; empty = c i; body = b i; ends = h i; opened = d i; server = e i; text = f i; users = g i; total = j i }
 
-changes_equal : (x y : Change) → x.attributes ≡ y.attributes → x.body ≡ y.body → x.ends ≡ y.ends → x.empty ≡ y.empty → x.opened ≡ y.opened → x.server ≡ y.server → x.text ≡ y.text → x.users ≡ y.users → x.total ≡ y.total → x ≡ y
-changes_equal x y a b h c d e f g j = λ i. record { attributes = a i; empty = c i; body = b i; ends = h i; opened = d i; server = e i; text = f i; users = g i; total = j i }
+changes_equal : (x y : Change) → x.attributes ≡ y.attributes → x.body ≡ y.body → x.ends ≡ y.ends → x.empty ≡ y.empty → x.opened ≡ y.opened → x.server ≡ y.server → x.text ≡ y.text → x.users ≡ y.users → x.total ≡ y.total → x.by_name ≡ y.by_name → x ≡ y
+changes_equal x y a b h c d e f g j k = λ i. record { attributes = a i; empty = c i; body = b i; ends = h i; opened = d i; server = e i; text = f i; users = g i; total = j i; by_name = k i }
 
 kept_rows : (x y : Row) (c : Change) → IsChange x y c → is_kept c ≡ true → x ≡ y
 kept_rows x y c is kept =
@@ -69,10 +69,10 @@ rows_kept x c is =
     all_true _ _ _ _ _ _ _ _ _ (same_turned x.attributes _ is.attributes) (same_turned x.body _ is.body) (same_turned x.ends _ is.ends) (same_turned x.empty _ is.empty)
     (same_turned x.opened _ is.opened) (same_turned x.server _ is.server) (same_turned x.text _ is.text) (same_turned x.users _ is.users) (same_turned x.total _ is.total)
 
-change_once : (x y : Row) (c d : Change) → IsChange x y c → IsChange x y d → c ≡ d
+pub change_once : (x y : Row) (c d : Change) → IsChange x y c → IsChange x y d → c ≡ d
 change_once x y c d s t =
     changes_equal c d (turned_once _ _ _ _ s.attributes t.attributes) (turned_once _ _ _ _ s.body t.body) (turned_once _ _ _ _ s.ends t.ends) (turned_once _ _ _ _ s.empty t.empty)
-    (turned_once _ _ _ _ s.opened t.opened) (turned_once _ _ _ _ s.server t.server) (turned_once _ _ _ _ s.text t.text) (turned_once _ _ _ _ s.users t.users) (turned_once _ _ _ _ s.total t.total)
+    (turned_once _ _ _ _ s.opened t.opened) (turned_once _ _ _ _ s.server t.server) (turned_once _ _ _ _ s.text t.text) (turned_once _ _ _ _ s.users t.users) (turned_once _ _ _ _ s.total t.total) (s.by_name ∙ sym t.by_name)
 
 -- a line
 
@@ -131,7 +131,7 @@ all_silent P [] text each lines = lines
 all_silent P (n ∷ ns) text each (here, rest, is, p, lines) =
     is ∙ (ap (λ (s : List ℕ). s ++ rest) (each n here p) ∙ all_silent P ns rest each lines)
 
-lines_once : (P : Name → List ℕ → Type 0) (ns : List Name) (s t : List ℕ) → ((n : Name) (u v : List ℕ) → P n u → P n v → u ≡ v) → Lines P ns s → Lines P ns t → s ≡ t
+pub lines_once : (P : Name → List ℕ → Type 0) (ns : List Name) (s t : List ℕ) → ((n : Name) (u v : List ℕ) → P n u → P n v → u ≡ v) → Lines P ns s → Lines P ns t → s ≡ t
 lines_once P [] s t each x y = x ∙ sym y
 lines_once P (n ∷ ns) s t each (here, rest, is, p, lines) (there, more, js, q, others) =
     is ∙ (ap (λ (u : List ℕ). u ++ rest) (each n here there p q) ∙ (ap (λ (u : List ℕ). there ++ u) (lines_once P ns rest more each lines others) ∙ sym js))

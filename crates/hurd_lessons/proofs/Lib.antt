@@ -6,3 +6,9 @@ pub mod OneLesson
 pub mod EntryLaws
 pub mod InSentences
 pub mod NothingLaws
+pub mod Keys
+pub mod BesideLaws
+pub mod Mates
+pub mod EachName
+pub mod SameNames
+pub mod SideLaws

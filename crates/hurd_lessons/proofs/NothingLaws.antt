@@ -22,6 +22,7 @@ kept = record {
   text = became.Same;
   users = became.Same;
   total = became.Same;
+  by_name = false;
 }
 
 turned_not : {X : Type 0} (x : Option X) → Turned x x became.Same
@@ -39,6 +40,7 @@ row_kept r = record {
   text = turned_not r.text;
   users = turned_not r.users;
   total = turned_not r.total;
+  by_name = refl;
 }
 
 line_none : (who : List ℕ) (a : View) (n : Name) → LineOf who a a n []

@@ -23,12 +23,12 @@ abbrev moved_seats : (x : Vec (Option Task) Global) (ys : List (Option Task)) �
 moved_seats x ys e = record x { items = ys; ok = coe 0 1 (i. ok-type (Option Task) Global x.ptr x.len x.cap x.alloc (e i)) x.ok }
 
 -- the same tasks were looked at, and two views are one
-record AreOne (a b : View) : Type 0 where
-  ours : a.sight.tasks.items ≡ b.sight.tasks.items
-  one : IsOneView a b
+pub record AreOne (a b : View) : Type 0 where
+  pub ours : a.sight.tasks.items ≡ b.sight.tasks.items
+  pub one : IsOneView a b
 
 -- a view with all of another that is told: what was found, the rows, and the tasks
-abbrev with_seen : (a b : View) → AreOne a b → View
+abbrev pub with_seen : (a b : View) → AreOne a b → View
 with_seen a b are = record a {
   sight = record a.sight { found = b.sight.found; tasks = moved_tasks a.sight.tasks b.sight.tasks.items are.ours };
   rows = b.rows;
@@ -36,7 +36,7 @@ with_seen a b are = record a {
   count = b.count;
 }
 
-same_seen : (a b : View) (are : AreOne a b) → a ≡ with_seen a b are
+pub same_seen : (a b : View) (are : AreOne a b) → a ≡ with_seen a b are
 same_seen a b are = λ j. record a {
   sight = record a.sight {
     found = are.one.found j;
@@ -75,7 +75,7 @@ lessons_same who a b c d text one two l = record {
         subst (λ (v : View). Lines (GoneLineOf who (with_seen a c one) v) (names_of (with_seen a c one)) l.gone) (same_seen b d two)
         (subst (λ (v : View). Lines (GoneLineOf who v b) (names_of v) l.gone) (same_seen a c one) l.are_gone)
 
-are_one : (tasks : List TaskId) (w : World) (a b : View) → Views tasks w a → Views tasks w b → AreOne a b
+pub are_one : (tasks : List TaskId) (w : World) (a b : View) → Views tasks w a → Views tasks w b → AreOne a b
 are_one tasks w a b in_a in_b = record { ours = in_a.ours ∙ sym in_b.ours; one = views_are_one tasks w a b in_a in_b }
 
 pub taught_is_one : TaughtIsOne

@@ -1,5 +1,5 @@
 -- What became of the parts that are seen under a name, in words.
-use Rattle.std.specs.Prelude.{ℕ, Bool, false, not, List, [], ◌∷◌, ◌++◌, Option, Some, None, if◌then◌else◌, bytes_eq, codes, drop}
+use Rattle.std.specs.Prelude.{ℕ, ◌||◌, Bool, false, not, List, [], ◌∷◌, ◌++◌, Option, Some, None, if◌then◌else◌, bytes_eq, codes, drop}
 use Rattle.hurd_creds.specs.Names.{same_name}
 use Rattle.hurd_creds.specs.declared.attrs.Attrs.{Attrs}
 use Rattle.hurd_creds.specs.declared.name.Name.{Name}
@@ -19,12 +19,18 @@ use Rattle.hurd_lessons.specs.Values.{bytes_change, kind_part, mode_part, number
 use Rattle.hurd_lessons.specs.declared.changes.Became.{Became}
 use Rattle.hurd_lessons.specs.declared.changes.Became.TheVariants as became
 
+-- what is said after the word of a part that is not seen both times, or not in both
+abbrev pub ending : Became → List ℕ
+ending became.Lost = codes " no longer seen"
+ending became.First = codes " only in the first"
+ending became.Second = codes " only in the second"
+ending _ = []
+
 -- one part more by its word, or what is said where it changed, unless it is as it was
 abbrev pub noted : List ℕ → List ℕ → List ℕ → Became → List ℕ
 noted words word changed became.Same = words
-noted words word changed became.New = parted words ++ word
 noted words word changed became.Changed = changed
-noted words word changed became.Lost = parted words ++ (word ++ codes " no longer seen")
+noted words word changed b = parted words ++ (word ++ ending b)
 
 -- what `io_stat` tells of a node, before and after
 abbrev pub changed_attrs : List ℕ → Option Attrs → Option Attrs → List ℕ
@@ -60,28 +66,28 @@ abbrev pub ends_change : List ℕ → Option (Option Ends) → Option (Option En
 ends_change words (Some (Some p)) (Some (Some q)) = with_part (with_part words (number_part (codes "readers") p.readers q.readers)) (number_part (codes "writers") p.writers q.writers)
 ends_change words _ _ = parted words ++ codes "readers and writers"
 
--- entries are the same, by name and node
-abbrev pub same_entry : EntryRow → EntryRow → Bool
-same_entry e f = if same_name e.node f.node then bytes_eq e.name f.name else false
+-- entries are the same, by name and node, or by name alone
+abbrev pub same_entry : Bool → EntryRow → EntryRow → Bool
+same_entry by_name e f = if by_name || same_name e.node f.node then bytes_eq e.name f.name else false
 
 -- the next of the new entries is this one
-abbrev pub comes_next : EntryRow → List EntryRow → Bool
-comes_next e [] = false
-comes_next e (f ∷ new) = same_entry e f
+abbrev pub comes_next : Bool → EntryRow → List EntryRow → Bool
+comes_next by_name e [] = false
+comes_next by_name e (f ∷ new) = same_entry by_name e f
 
 -- the new entries without it, if it comes next
-abbrev pub passed : EntryRow → List EntryRow → List EntryRow
-passed e new = if comes_next e new then drop 1 new else new
+abbrev pub passed : Bool → EntryRow → List EntryRow → List EntryRow
+passed by_name e new = if comes_next by_name e new then drop 1 new else new
 
 -- the entries that are no longer there: those that don't come next when all before them are passed
-abbrev pub entries_gone : List EntryRow → List EntryRow → List EntryRow
-entries_gone [] new = []
-entries_gone (e ∷ old) new = (if comes_next e new then [] else e ∷ []) ++ entries_gone old (passed e new)
+abbrev pub entries_gone : Bool → List EntryRow → List EntryRow → List EntryRow
+entries_gone by_name [] new = []
+entries_gone by_name (e ∷ old) new = (if comes_next by_name e new then [] else e ∷ []) ++ entries_gone by_name old (passed by_name e new)
 
--- and those that are new: what is left of the new ones behind all that are passed
-abbrev pub entries_new : List EntryRow → List EntryRow → List EntryRow
-entries_new [] new = new
-entries_new (e ∷ old) new = entries_new old (passed e new)
+-- and those that are new: what is left of the new ones after all that are passed
+abbrev pub entries_new : Bool → List EntryRow → List EntryRow → List EntryRow
+entries_new by_name [] new = new
+entries_new by_name (e ∷ old) new = entries_new by_name old (passed by_name e new)
 
 -- names, each behind a sign
 abbrev pub signed_names : List ℕ → List EntryRow → List ℕ
@@ -89,16 +95,17 @@ signed_names sign [] = []
 signed_names sign (e ∷ es) = (sign ++ spelled_name e.name) ++ signed_names sign es
 
 -- what is in a node
-abbrev pub changed_body : BodyRow → BodyRow → List ℕ
-changed_body (body.Entries old) (body.Entries new) = codes "entries" ++ (signed_names (codes " + ") (entries_new old new) ++ signed_names (codes " - ") (entries_gone old new))
-changed_body (body.Bytes old) (body.Bytes new) = bytes_change old new
-changed_body _ (body.Entries new) = codes "entries"
-changed_body _ (body.Bytes new) = codes "bytes"
+abbrev pub changed_body : Bool → BodyRow → BodyRow → List ℕ
+changed_body by_name (body.Entries old) (body.Entries new) =
+    codes "entries" ++ (signed_names (codes " + ") (entries_new by_name old new) ++ signed_names (codes " - ") (entries_gone by_name old new))
+changed_body by_name (body.Bytes old) (body.Bytes new) = bytes_change old new
+changed_body by_name _ (body.Entries new) = codes "entries"
+changed_body by_name _ (body.Bytes new) = codes "bytes"
 
 -- the same of a body that may be seen
-abbrev pub body_change : Option (Option BodyRow) → Option (Option BodyRow) → List ℕ
-body_change (Some (Some x)) (Some (Some y)) = changed_body x y
-body_change _ _ = codes "body"
+abbrev pub body_change : Bool → Option (Option BodyRow) → Option (Option BodyRow) → List ℕ
+body_change by_name (Some (Some x)) (Some (Some y)) = changed_body by_name x y
+body_change by_name _ _ = codes "body"
 
 -- whether a directory has no entries: what it says now
 abbrev pub empty_change : Option (Option Bool) → List ℕ

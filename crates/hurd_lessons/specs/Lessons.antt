@@ -26,12 +26,16 @@ body_word x y = if is_listing x.body then codes "entries" else if is_listing y.b
 abbrev pub emptiness : Became → Became → Became
 emptiness became.New e = became.Same
 emptiness became.Changed e = became.Same
+emptiness became.First became.First = became.Same
+emptiness became.Second became.Second = became.Same
 emptiness _ e = e
 
 -- who comes to see what is in a node, or no longer sees it, is told so by that alone, and not of its readers and writers too
 abbrev pub ends_beside : Became → Became → Became
 ends_beside became.New became.New = became.Same
 ends_beside became.Lost became.Lost = became.Same
+ends_beside became.First became.First = became.Same
+ends_beside became.Second became.Second = became.Same
 ends_beside _ e = e
 
 -- the parts of a node that changed, each by its word, and by what it was and is where it is seen both times
@@ -42,7 +46,7 @@ abbrev pub note_ends : Row → Row → Change → List ℕ → List ℕ
 note_ends x y c words = noted words (codes "readers and writers") (ends_change words x.ends y.ends) (ends_beside c.body c.ends)
 
 abbrev pub note_body : Row → Row → Change → List ℕ → List ℕ
-note_body x y c words = noted words (body_word x y) (with_part words (Some (body_change x.body y.body))) c.body
+note_body x y c words = noted words (body_word x y) (with_part words (Some (body_change c.by_name x.body y.body))) c.body
 
 abbrev pub note_empty : Row → Change → List ℕ → List ℕ
 note_empty y c words = noted words (codes "emptiness") (with_part words (Some (empty_change y.empty))) (emptiness c.body c.empty)

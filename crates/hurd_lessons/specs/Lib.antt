@@ -4,4 +4,5 @@ pub mod Seen
 pub mod Differences
 pub mod Lessons
 pub mod Added
+pub mod Beside
 pub mod Told

@@ -10,6 +10,7 @@ use Rattle.hurd_views.specs.declared.view.View.{View}
 use Rattle.hurd_words.specs.Sentences.{InSentences}
 use Rattle.hurd_words.specs.Turns.{paragraph}
 use Rattle.hurd_words.specs.declared.answers.Answer.{Answer}
+use Rattle.hurd_lessons.specs.Beside.{Beside}
 use Rattle.hurd_lessons.specs.Lessons.{Lessons}
 use Rattle.hurd_lessons.specs.Seen.{seen_text}
 use Rattle.hurd_lessons.specs.declared.tally.Tally.{Tally}
@@ -17,6 +18,10 @@ use Rattle.hurd_lessons.specs.declared.tally.Tally.{Tally}
 -- what these tasks learn by what was done between two worlds
 abbrev pub Taught : List TaskId → List ℕ → World → World → List ℕ → Type 0
 Taught tasks who w x text = (a b : View) × Views tasks w a × Views tasks x b × Lessons who a b text
+
+-- what these tasks see otherwise in one world than in another, each of a script of its own
+abbrev pub ToldApart : List TaskId → List ℕ → World → World → List ℕ → Type 0
+ToldApart tasks who w x text = (a b : View) × Views tasks w a × Views tasks x b × Beside who a b text
 
 -- what is said behind what was done: nothing, where one of these tasks did it or nothing is to be said yet; else what they learn by it
 pub record Lesson (tasks : List TaskId) (who : List ℕ) (quiet : Bool) (w x : World) (text : List ℕ) : Type 0 where
@@ -29,9 +34,12 @@ UntaughtWhereUnmoved =
     (tasks : List TaskId) (who : List ℕ) (w x : World) (text : List ℕ) → Sound w → Sound x → Taught tasks who w x text
     → (text ≡ []) ↔ SameView (among tasks) w x
 
--- one text is said of what was done between two worlds, and one of all that is seen of a world
+-- one text is said of what was done between two worlds, one of what differs between two, and one of all that is seen of a world
 abbrev pub TaughtIsOne : Type 0
 TaughtIsOne = (tasks : List TaskId) (who : List ℕ) (w x : World) (s t : List ℕ) → Taught tasks who w x s → Taught tasks who w x t → s ≡ t
+
+abbrev pub ToldApartIsOne : Type 0
+ToldApartIsOne = (tasks : List TaskId) (who : List ℕ) (w x : World) (s t : List ℕ) → ToldApart tasks who w x s → ToldApart tasks who w x t → s ≡ t
 
 abbrev pub SeenIsOne : Type 0
 SeenIsOne = (tasks : List TaskId) (who : List ℕ) (w : World) (a b : View) → Views tasks w a → Views tasks w b → seen_text who a ≡ seen_text who b

@@ -1,11 +1,11 @@
-//! What became of what is seen under a name, between two looks.
+//! What became of what is seen under a name between two looks, and what differs of what is seen in two scripts.
 ghost use Rattle.std.specs.Prelude.{◌≡◌, Some};
 ghost use Rattle.hurd_views.specs.Views.{no_row};
-ghost use Rattle.hurd_lessons.specs.Changes.{IsChange, Turned, is_kept, is_same, shows};
+ghost use Rattle.hurd_lessons.specs.Changes.{IsChange, Turned, between, in_one, is_kept, is_same, list_the_same, same_names, shows};
 
 use hurd_creds::Same;
 use hurd_ports::Ends;
-use hurd_views::Row;
+use hurd_views::{BodyRow, EntryRow, Row};
 
 /// What became of a part.
 #[derive(Clone, Copy, Debug, PartialEq, Eq)]
@@ -18,6 +18,10 @@ pub(crate) enum Became {
     Changed,
     /// It is no longer seen.
     Lost,
+    /// It is seen in the first of two scripts alone.
+    First,
+    /// It is seen in the second alone.
+    Second,
 }
 
 /// What became of each part of what is seen under a name.
@@ -32,6 +36,8 @@ pub(crate) struct Change {
     pub(crate) text: Became,
     pub(crate) users: Became,
     pub(crate) total: Became,
+    /// Whether entries are compared by their names alone.
+    pub(crate) by_name: bool,
 }
 
 impl Became {
@@ -78,6 +84,17 @@ impl Became {
     {
         matches!(self, Became::Same)
     }
+
+    /// The same of two scripts: what is not seen in both is seen in one alone.
+    fn in_one(self) -> Became
+        ensures { result ≡ in_one self }
+    {
+        match self {
+            Became::New => Became::Second,
+            Became::Lost => Became::First,
+            _ => self,
+        }
+    }
 }
 
 impl Change {
@@ -95,6 +112,29 @@ impl Change {
             text: Became::of(&before.text, &after.text),
             users: Became::of(&before.users, &after.users),
             total: Became::of(&before.total, &after.total),
+            by_name: false,
+        }
+    }
+
+    /// What differs of each part in two scripts, from what would have become of it between two looks.
+    pub(crate) fn between(self, first: &Row, second: &Row) -> Change
+        ensures { result ≡ between first.now second.now self }
+    {
+        Change {
+            attributes: self.attributes.in_one(),
+            body: if list_the_same(&first.body, &second.body) {
+                Became::Same
+            } else {
+                self.body.in_one()
+            },
+            ends: self.ends.in_one(),
+            empty: self.empty.in_one(),
+            opened: self.opened.in_one(),
+            server: self.server.in_one(),
+            text: self.text.in_one(),
+            users: self.users.in_one(),
+            total: self.total.in_one(),
+            by_name: true,
         }
     }
 
@@ -111,6 +151,33 @@ impl Change {
             && self.text.is_same()
             && self.users.is_same()
             && self.total.is_same()
+    }
+}
+
+/// Whether entries have the same names in the same order.
+fn same_names(some: &[EntryRow], others: &[EntryRow]) -> bool
+    ensures { result ≡ same_names some.now others.now }
+{
+    if some.len() != others.len() {
+        return false;
+    }
+    for i in 0..some.len() {
+        if some[i].name.as_slice() != others[i].name.as_slice() {
+            return false;
+        }
+    }
+    true
+}
+
+/// The same of two directories that are seen.
+fn list_the_same(first: &Option<Option<BodyRow>>, second: &Option<Option<BodyRow>>) -> bool
+    ensures { result ≡ list_the_same first.now second.now }
+{
+    match (first, second) {
+        (Some(Some(BodyRow::Entries(some))), Some(Some(BodyRow::Entries(others)))) => {
+            same_names(some.as_slice(), others.as_slice())
+        }
+        _ => false,
     }
 }
 

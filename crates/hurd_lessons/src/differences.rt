@@ -1,6 +1,6 @@
 //! What became of the parts that are seen under a name, in words.
 ghost use Rattle.std.specs.Prelude.{◌≡◌, ◌++◌, ◌≤◌, ◌+◌, ◌∷◌, [], codes, drop, if◌then◌else◌, IfOk, OnOk, Some};
-ghost use Rattle.hurd_lessons.specs.Differences.{body_change, changed_attrs, changed_body, changed_node, changed_open, changed_opened, changed_server, comes_next, empty_change, ends_change, entries_gone, entries_new, modes_or_none, modes_part, noted, number_change, parent_at, passed, same_entry, server_change, text_change, signed_names};
+ghost use Rattle.hurd_lessons.specs.Differences.{body_change, changed_attrs, changed_body, changed_node, changed_open, changed_opened, changed_server, comes_next, empty_change, ending, ends_change, entries_gone, entries_new, modes_or_none, modes_part, noted, number_change, parent_at, passed, same_entry, server_change, text_change, signed_names};
 ghost use Rattle.hurd_words.specs.Spelling.{spelled_name};
 ghost use Rattle.hurd_lessons.specs.Seen.{places_text, program_text, uid_text};
 ghost use Rattle.hurd_lessons.specs.Lessons.{body_word, emptiness, ends_beside, is_listing, or_changed, parts_of, said_of};
@@ -18,19 +18,28 @@ use hurd_views::{BodyRow, EntryRow, NodeRow, OpenRow, Row, ServerRow, TextRow, V
 use hurd_words::spelling::push_spelled_name;
 use std::alloc::{AllocError, Global};
 
-/// What stands behind a part that is no longer seen.
-const LOST: &[u8] = b" no longer seen";
-
 /// What the ends of a node are called.
 const ENDS: &[u8] = b"readers and writers";
 
-/// Adds a part by its word that is no longer seen.
-fn note(words: &mut Vec<u8>, word: &[u8], ending: &[u8]) -> Result<(), AllocError>
-    ensures { OnOk result (words.new.items ≡ with_part words.old.items (Some (word.now ++ ending.now))) }
+/// What is said after the word of a part that is not seen both times, or not in both.
+fn ending(became: Became) -> &'static [u8]
+    ensures { result.now ≡ ending became }
+{
+    match became {
+        Became::Lost => b" no longer seen",
+        Became::First => b" only in the first",
+        Became::Second => b" only in the second",
+        Became::Same | Became::New | Became::Changed => b"",
+    }
+}
+
+/// Adds a part by its word that is not seen both times, or not in both.
+fn note(words: &mut Vec<u8>, word: &[u8], became: Became) -> Result<(), AllocError>
+    ensures { OnOk result (words.new.items ≡ with_part words.old.items (Some (word.now ++ ending became))) }
 {
     part(words)?;
     words.extend_from_slice(word)?;
-    words.extend_from_slice(ending)
+    words.extend_from_slice(ending(became))
 }
 
 /// Adds what `io_stat` tells of a node that is there before and after.
@@ -144,11 +153,11 @@ fn add_ends(
     add_number(words, b"writers", old.writers, new.writers)
 }
 
-/// Whether entries are the same, by name and node.
-fn same_entry(one: &EntryRow, other: &EntryRow) -> bool
-    ensures { result ≡ same_entry one.now other.now }
+/// Whether entries are the same, by name and node, or by name alone.
+fn same_entry(by_name: bool, one: &EntryRow, other: &EntryRow) -> bool
+    ensures { result ≡ same_entry by_name one.now other.now }
 {
-    one.node == other.node && one.name.as_slice() == other.name.as_slice()
+    (by_name || one.node == other.node) && one.name.as_slice() == other.name.as_slice()
 }
 
 /// Adds a name behind a sign.
@@ -170,21 +179,21 @@ fn push_all_signed(words: &mut Vec<u8>, sign: &[u8], entries: &[EntryRow]) -> Re
 }
 
 /// Whether the next of the new entries is this one.
-fn comes_next(new: &[EntryRow], kept: usize, entry: &EntryRow) -> bool
-    ensures { result ≡ comes_next entry.now (drop kept new.now) }
+fn comes_next(by_name: bool, new: &[EntryRow], kept: usize, entry: &EntryRow) -> bool
+    ensures { result ≡ comes_next by_name entry.now (drop kept new.now) }
 {
     match new.get(kept) {
-        Some(next) => same_entry(entry, next),
+        Some(next) => same_entry(by_name, entry, next),
         None => false,
     }
 }
 
 /// How many of the new entries are passed with this one.
-fn next_kept(new: &[EntryRow], kept: usize, entry: &EntryRow) -> usize
-    ensures passed { drop result new.now ≡ passed entry.now (drop kept new.now) }
+fn next_kept(by_name: bool, new: &[EntryRow], kept: usize, entry: &EntryRow) -> usize
+    ensures passed { drop result new.now ≡ passed by_name entry.now (drop kept new.now) }
     ensures few { result ≤ kept + 1 }
 {
-    if kept < new.len() && comes_next(new, kept, entry) {
+    if kept < new.len() && comes_next(by_name, new, kept, entry) {
         kept + 1
     } else {
         kept
@@ -192,12 +201,12 @@ fn next_kept(new: &[EntryRow], kept: usize, entry: &EntryRow) -> usize
 }
 
 /// How many of the new entries were there before.
-fn entries_kept(old: &[EntryRow], new: &[EntryRow]) -> usize
-    ensures { drop result new.now ≡ entries_new old.now new.now }
+fn entries_kept(by_name: bool, old: &[EntryRow], new: &[EntryRow]) -> usize
+    ensures { drop result new.now ≡ entries_new by_name old.now new.now }
 {
     let mut kept = 0usize;
     for entry in old {
-        kept = next_kept(new, kept, entry);
+        kept = next_kept(by_name, new, kept, entry);
     }
     kept
 }
@@ -213,13 +222,18 @@ fn push_unless(words: &mut Vec<u8>, comes: bool, entry: &EntryRow) -> Result<(),
 }
 
 /// Adds the names of entries that are no longer there.
-fn push_gone(words: &mut Vec<u8>, old: &[EntryRow], new: &[EntryRow]) -> Result<(), AllocError>
-    ensures { OnOk result (words.new.items ≡ words.old.items ++ signed_names (codes " - ") (entries_gone old.now new.now)) }
+fn push_gone(
+    words: &mut Vec<u8>,
+    by_name: bool,
+    old: &[EntryRow],
+    new: &[EntryRow],
+) -> Result<(), AllocError>
+    ensures { OnOk result (words.new.items ≡ words.old.items ++ signed_names (codes " - ") (entries_gone by_name old.now new.now)) }
 {
     let mut kept = 0usize;
     for entry in old {
-        push_unless(words, comes_next(new, kept, entry), entry)?;
-        kept = next_kept(new, kept, entry);
+        push_unless(words, comes_next(by_name, new, kept, entry), entry)?;
+        kept = next_kept(by_name, new, kept, entry);
     }
     Ok(())
 }
@@ -227,26 +241,33 @@ fn push_gone(words: &mut Vec<u8>, old: &[EntryRow], new: &[EntryRow]) -> Result<
 /// Adds which entries are new, and which are no longer there.
 fn push_entries_change(
     words: &mut Vec<u8>,
+    by_name: bool,
     old: &[EntryRow],
     new: &[EntryRow],
 ) -> Result<(), AllocError>
-    ensures { OnOk result (words.new.items ≡ words.old.items ++ (codes "entries" ++ (signed_names (codes " + ") (entries_new old.now new.now) ++ signed_names (codes " - ") (entries_gone old.now new.now)))) }
+    ensures { OnOk result (words.new.items ≡ words.old.items
+        ++ (codes "entries" ++ (signed_names (codes " + ") (entries_new by_name old.now new.now) ++ signed_names (codes " - ") (entries_gone by_name old.now new.now)))) }
 {
     words.extend_from_slice(b"entries")?;
-    let kept = entries_kept(old, new);
+    let kept = entries_kept(by_name, old, new);
     if let Some(added) = new.get(kept..) {
         push_all_signed(words, b" + ", added)?;
     }
-    push_gone(words, old, new)
+    push_gone(words, by_name, old, new)
 }
 
 /// Adds what became of what is in a node.
-fn push_body_change(words: &mut Vec<u8>, old: &BodyRow, new: &BodyRow) -> Result<(), AllocError>
-    ensures { OnOk result (words.new.items ≡ words.old.items ++ changed_body old.now new.now) }
+fn push_body_change(
+    words: &mut Vec<u8>,
+    by_name: bool,
+    old: &BodyRow,
+    new: &BodyRow,
+) -> Result<(), AllocError>
+    ensures { OnOk result (words.new.items ≡ words.old.items ++ changed_body by_name old.now new.now) }
 {
     match (old, new) {
         (BodyRow::Entries(old), BodyRow::Entries(new)) => {
-            push_entries_change(words, old.as_slice(), new.as_slice())
+            push_entries_change(words, by_name, old.as_slice(), new.as_slice())
         }
         (BodyRow::Bytes(old), BodyRow::Bytes(new)) => {
             push_bytes_change(words, old.as_slice(), new.as_slice())
@@ -259,14 +280,15 @@ fn push_body_change(words: &mut Vec<u8>, old: &BodyRow, new: &BodyRow) -> Result
 /// Adds the part of it.
 fn add_body(
     words: &mut Vec<u8>,
+    by_name: bool,
     old: &Option<Option<BodyRow>>,
     new: &Option<Option<BodyRow>>,
 ) -> Result<(), AllocError>
-    ensures { OnOk result (words.new.items ≡ with_part words.old.items (Some (body_change old.now new.now))) }
+    ensures { OnOk result (words.new.items ≡ with_part words.old.items (Some (body_change by_name old.now new.now))) }
 {
     part(words)?;
     match (old, new) {
-        (Some(Some(old)), Some(Some(new))) => push_body_change(words, old, new),
+        (Some(Some(old)), Some(Some(new))) => push_body_change(words, by_name, old, new),
         _ => words.extend_from_slice(b"body"),
     }
 }
@@ -528,9 +550,11 @@ fn body_word(before: &Row, after: &Row) -> &'static [u8]
 fn emptiness(body: Became, empty: Became) -> Became
     ensures { result ≡ emptiness body empty }
 {
-    match body {
-        Became::New | Became::Changed => Became::Same,
-        Became::Same | Became::Lost => empty,
+    match (body, empty) {
+        (Became::New | Became::Changed, _)
+        | (Became::First, Became::First)
+        | (Became::Second, Became::Second) => Became::Same,
+        _ => empty,
     }
 }
 
@@ -539,7 +563,10 @@ fn ends_beside(body: Became, ends: Became) -> Became
     ensures { result ≡ ends_beside body ends }
 {
     match (body, ends) {
-        (Became::New, Became::New) | (Became::Lost, Became::Lost) => Became::Same,
+        (Became::New, Became::New)
+        | (Became::Lost, Became::Lost)
+        | (Became::First, Became::First)
+        | (Became::Second, Became::Second) => Became::Same,
         _ => ends,
     }
 }
@@ -558,12 +585,11 @@ fn note_node(
 {
     match became {
         Became::Same => Ok(()),
-        Became::New => add_part(words, b"attributes"),
-        Became::Lost => note(words, b"attributes", LOST),
         Became::Changed => match (old, new) {
             (Some(old), Some(new)) => add_node(alloc, words, before, after, old, new),
             _ => Ok(()),
         },
+        _ => note(words, b"attributes", became),
     }
 }
 
@@ -578,21 +604,25 @@ fn note_ends(
 {
     match became {
         Became::Same => Ok(()),
-        Became::New => add_part(words, ENDS),
-        Became::Lost => note(words, ENDS, LOST),
         Became::Changed => add_ends(words, old, new),
+        _ => note(words, ENDS, became),
     }
 }
 
 /// Adds the part of a body, unless it is as it was.
-fn note_body(words: &mut Vec<u8>, old: &Row, new: &Row, became: Became) -> Result<(), AllocError>
-    ensures { OnOk result (words.new.items ≡ noted words.old.items (body_word old.now new.now) (with_part words.old.items (Some (body_change old.now.body new.now.body))) became) }
+fn note_body(
+    words: &mut Vec<u8>,
+    by_name: bool,
+    old: &Row,
+    new: &Row,
+    became: Became,
+) -> Result<(), AllocError>
+    ensures { OnOk result (words.new.items ≡ noted words.old.items (body_word old.now new.now) (with_part words.old.items (Some (body_change by_name old.now.body new.now.body))) became) }
 {
     match became {
         Became::Same => Ok(()),
-        Became::New => add_part(words, body_word(old, new)),
-        Became::Lost => note(words, body_word(old, new), LOST),
-        Became::Changed => add_body(words, &old.body, &new.body),
+        Became::Changed => add_body(words, by_name, &old.body, &new.body),
+        _ => note(words, body_word(old, new), became),
     }
 }
 
@@ -606,9 +636,8 @@ fn note_empty(
 {
     match became {
         Became::Same => Ok(()),
-        Became::New => add_part(words, b"emptiness"),
-        Became::Lost => note(words, b"emptiness", LOST),
         Became::Changed => add_empty(words, new),
+        _ => note(words, b"emptiness", became),
     }
 }
 
@@ -624,9 +653,8 @@ fn note_open(
 {
     match became {
         Became::Same => Ok(()),
-        Became::New => add_part(words, b"open"),
-        Became::Lost => note(words, b"open", LOST),
         Became::Changed => add_open(alloc, words, old, new),
+        _ => note(words, b"open", became),
     }
 }
 
@@ -644,9 +672,8 @@ fn note_server(
 {
     match became {
         Became::Same => Ok(()),
-        Became::New => add_part(words, b"program"),
-        Became::Lost => note(words, b"program", LOST),
         Became::Changed => add_server(alloc, words, before, after, old, new),
+        _ => note(words, b"program", became),
     }
 }
 
@@ -662,9 +689,8 @@ fn note_text(
 {
     match became {
         Became::Same => Ok(()),
-        Became::New => add_part(words, b"text"),
-        Became::Lost => note(words, b"text", LOST),
         Became::Changed => add_text(alloc, words, old, new),
+        _ => note(words, b"text", became),
     }
 }
 
@@ -680,14 +706,13 @@ fn note_number(
 {
     match became {
         Became::Same => Ok(()),
-        Became::New => add_part(words, word),
-        Became::Lost => note(words, word, LOST),
         Became::Changed => add_seen_number(words, word, old, new),
+        _ => note(words, word, became),
     }
 }
 
 /// The parts that changed under a name: each by its word, and by what it was and is where it is seen both times.
-fn parts(
+pub(crate) fn parts(
     alloc: Global,
     before: &View,
     after: &View,
@@ -713,7 +738,7 @@ fn parts(
         new.ends,
         ends_beside(change.body, change.ends),
     )?;
-    note_body(&mut words, old, new, change.body)?;
+    note_body(&mut words, change.by_name, old, new, change.body)?;
     note_empty(&mut words, new.empty, emptiness(change.body, change.empty))?;
     note_open(alloc, &mut words, &old.opened, &new.opened, change.opened)?;
     note_server(

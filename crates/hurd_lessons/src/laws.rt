@@ -1,6 +1,7 @@
 //! What it means that nothing is said, and that what is said is one text.
+ghost use Rattle.hurd_lessons.specs.Beside.{MatesAreMutual};
 ghost use Rattle.hurd_lessons.specs.Lessons.{NothingBetween};
-ghost use Rattle.hurd_lessons.specs.Told.{SeenInSentences, SeenIsOne, TaughtInSentences, TaughtIsOne, UntaughtWhereUnmoved};
+ghost use Rattle.hurd_lessons.specs.Told.{SeenInSentences, SeenIsOne, TaughtInSentences, TaughtIsOne, ToldApartIsOne, UntaughtWhereUnmoved};
 
 /// A law: what others did taught some tasks nothing exactly where it left what these see as it was.
 pub fn untaught_where_unmoved()
@@ -12,9 +13,10 @@ pub fn nothing_between()
     ensures { NothingBetween }
 {}
 
-/// A law: what is said of what others did is one text, and so is all that some tasks see of a world.
+/// A law: what is said of what others did is one text, and so are what differs between two worlds and all that some tasks see of one.
 pub fn said_in_one_way()
     ensures taught { TaughtIsOne }
+    ensures apart { ToldApartIsOne }
     ensures seen { SeenIsOne }
 {}
 
@@ -22,4 +24,9 @@ pub fn said_in_one_way()
 pub fn said_in_sentences()
     ensures taught { TaughtInSentences }
     ensures seen { SeenInSentences }
+{}
+
+/// A law: what is paired in two scripts is of one sort, and each is the other's mate.
+pub fn mates_are_mutual()
+    ensures { MatesAreMutual }
 {}

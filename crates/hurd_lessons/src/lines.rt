@@ -24,7 +24,7 @@ pub(crate) fn row_at<'a>(view: &'a View, name: Name, nothing: &'a Row) -> &'a Ro
 }
 
 /// A place before, and the one behind it where that is another.
-fn moved(mut old: Vec<u8>, new: &[u8]) -> Result<Vec<u8>, AllocError>
+pub(crate) fn moved(mut old: Vec<u8>, new: &[u8]) -> Result<Vec<u8>, AllocError>
     ensures { IfOk result (λ place. place.items ≡ moved old.items new.now) }
 {
     if old.as_slice() != new {
@@ -193,7 +193,12 @@ fn add_gone(
 }
 
 /// Adds a line about these tasks, unless something holds.
-fn add_unless(text: &mut Vec<u8>, holds: bool, who: &[u8], said: &[u8]) -> Result<(), AllocError>
+pub(crate) fn add_unless(
+    text: &mut Vec<u8>,
+    holds: bool,
+    who: &[u8],
+    said: &[u8],
+) -> Result<(), AllocError>
     ensures { OnOk result (text.new.items ≡ text.old.items ++ (if holds then [] else codes "  " ++ (who.now ++ said.now))) }
 {
     if holds {

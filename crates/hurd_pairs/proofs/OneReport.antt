@@ -4,7 +4,7 @@ use Rattle.std.proofs.Common.{◌≡◌, ◌∙◌, map, inl, inr, refl, sym, ap
 use Rattle.hurd_creds.specs.declared.name.TaskId.{TaskId}
 use Rattle.hurd_sight.specs.Reach.{among}
 use Rattle.hurd_run.specs.Scripts.{scripts}
-use Rattle.hurd_lessons.proofs.OneLesson.{taught_is_one}
+use Rattle.hurd_lessons.proofs.BesideLaws.{told_apart_is_one}
 use Rattle.hurd_teaching.proofs.OneText.{alike}
 use Rattle.hurd_machine.specs.World.{World}
 use Rattle.hurd_views.specs.Views.{IsOneView}
@@ -49,7 +49,7 @@ seen_once : (tasks : List TaskId) (sees : List ℕ) (m n : Moment) (d e : Differ
 seen_once tasks sees m n d e x y =
     let one = x.one ∙ sym y.one in
     let two = x.two ∙ sym y.two in
-    let said = taught_is_one tasks sees m.world n.world d.said e.said x.said y.said in
+    let said = told_apart_is_one tasks sees m.world n.world d.said e.said x.said y.said in
     λ i. record { one = one i; two = two i; said = said i }
 
 told_once : (m n : Moment) (d e : Difference) → SaysTold m n d → SaysTold m n e → d ≡ e

@@ -7,7 +7,7 @@ use Rattle.hurd_words.specs.declared.answers.Answer.{Answer}
 use Rattle.hurd_sight.specs.Reach.{among}
 use Rattle.hurd_views.specs.Views.{Views}
 use Rattle.hurd_views.specs.declared.view.View.{View}
-use Rattle.hurd_lessons.specs.Told.{Taught}
+use Rattle.hurd_lessons.specs.Told.{ToldApart}
 use Rattle.hurd_looks.specs.Renamed.{AreAlike}
 use Rattle.hurd_pairs.specs.Moments.{FirstOther, Moment, TellOther, TellSame}
 use Rattle.hurd_pairs.specs.declared.difference.Compared.{Compared}
@@ -20,11 +20,11 @@ SeeAlike tasks v w = (a b : View) × Views tasks v a × Views tasks w b × AreAl
 abbrev pub SeeOther : List TaskId → World → World → Type 0
 SeeOther tasks v w = (a b : View) × Views tasks v a × Views tasks w b × (AreAlike (among tasks) a b → ⊥)
 
--- of two moments it is said what these tasks see otherwise at the one than at the other: as what they learn, from the first to the second
+-- of two moments it is said what these tasks see otherwise at the one than at the other
 pub record SaysSeen (tasks : List TaskId) (sees : List ℕ) (m n : Moment) (d : Difference) : Type 0 where
   pub one : d.one ≡ m.made
   pub two : d.two ≡ n.made
-  pub said : Taught tasks sees m.world n.world d.said
+  pub said : ToldApart tasks sees m.world n.world d.said
 
 -- an answer with its marks, or that there is none
 abbrev pub marked_or_none : Option Answer → List ℕ

@@ -5,7 +5,7 @@ use Rattle.hurd_machine.specs.World.{World}
 use Rattle.hurd_sight.specs.Reach.{among}
 use Rattle.hurd_dialogue.specs.Parts.{Part, Way}
 use Rattle.hurd_words.specs.declared.answers.Answer.{Answer}
-use Rattle.hurd_lessons.specs.Told.{Taught}
+use Rattle.hurd_lessons.specs.Told.{ToldApart}
 use Rattle.hurd_pairs.specs.Differences.{SaysSeen, SaysTold, SeeAlike, SeeOther}
 use Rattle.hurd_pairs.specs.Moments.{Moment, TellOther, TellSame, moments_left}
 use Rattle.hurd_pairs.specs.declared.difference.Compared.{Compared}
@@ -19,7 +19,7 @@ IsAtOwn S false left = left ≡ []
 -- what these tasks see otherwise of the second world, if anything
 abbrev pub IsSeenSo : List TaskId → List ℕ → World → World → Option (List ℕ) → Type 0
 IsSeenSo tasks sees v w None = SeeAlike tasks v w
-IsSeenSo tasks sees v w (Some said) = SeeOther tasks v w × Taught tasks sees v w said
+IsSeenSo tasks sees v w (Some said) = SeeOther tasks v w × ToldApart tasks sees v w said
 
 -- what was found before is kept; else it is found whether two moments are the same or other, and what is said of them where they are other
 abbrev pub KeepsOrFinds : (Moment → Moment → Type 0) → (Moment → Moment → Type 0) → (Moment → Moment → Difference → Type 0) → Moment → Moment → Option Difference → Option Difference → Type 0

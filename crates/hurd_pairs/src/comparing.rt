@@ -11,7 +11,7 @@ use crate::difference::{Compared, Difference};
 use crate::own::reach_own;
 use hurd_creds::{Bytes, Same};
 use hurd_dialogue::Telling;
-use hurd_lessons::lessons;
+use hurd_lessons::tell_apart;
 use hurd_looks::look_alike;
 use hurd_teaching::{Learners, view_of};
 use hurd_trans_iface::Server;
@@ -35,7 +35,7 @@ fn seen_otherwise<S: Server>(
     if look_alike(alloc, &first, &second, learners.tasks.as_slice())? {
         return Ok(None);
     }
-    let said = lessons(alloc, learners.sees.as_slice(), &first, &second)?;
+    let said = tell_apart(alloc, learners.sees.as_slice(), &first, &second)?;
     Ok(Some(said))
 }
 

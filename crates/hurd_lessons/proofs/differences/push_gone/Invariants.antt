@@ -4,5 +4,5 @@ use Rattle.hurd_lessons.proofs.differences.push_gone.Given as goal
 
 abbrev pub invariant-loop-entry : goal.invariant-loop-entry
 invariant-loop-entry l =
-    (l.words.items ++ signed_names (codes " - ") (entries_gone (drop l.entry-index l.old) (drop l.kept l.new)) ≡ l.fn.words.items ++ signed_names (codes " - ") (entries_gone l.old l.new))
+    (l.words.items ++ signed_names (codes " - ") (entries_gone l.by_name (drop l.entry-index l.old) (drop l.kept l.new)) ≡ l.fn.words.items ++ signed_names (codes " - ") (entries_gone l.by_name l.old l.new))
     × (l.kept ≤ l.entry-index)
