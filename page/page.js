@@ -7,6 +7,7 @@ const Page = {
   help: JSON.parse(Machine.block("help-texts")),
   who: new Set(),
   missed: new Set(), // those who were chosen, until the text lost them
+  is_stand_in: false, // whether somebody is chosen only because nobody was
   at: Infinity,
   turn: 0,
   tabs: ["told", "sees", "beside"],
@@ -86,8 +87,11 @@ const Page = {
   chips(users) {
     const gone = [...this.who].filter(name => !users.has(name));
     for (const name of gone) { this.who.delete(name); this.missed.add(name); }
-    for (const name of [...this.missed].filter(name => users.has(name))) { this.missed.delete(name); this.who.add(name); }
-    if (!this.who.size && users.size) this.who.add(users.has("alice") ? "alice" : [...users.keys()].at(-1));
+    const found = [...this.missed].filter(name => users.has(name));
+    if (found.length && this.is_stand_in) this.who.clear();
+    for (const name of found) { this.missed.delete(name); this.who.add(name); }
+    this.is_stand_in = this.is_stand_in && !found.length;
+    if (!this.who.size && users.size) { this.who.add(users.has("alice") ? "alice" : [...users.keys()].at(-1)); this.is_stand_in = true; }
     const box = $("who"), said = JSON.stringify([...users.keys()]);
     if (box.dataset.said !== said) {
       box.dataset.said = said;
@@ -95,7 +99,7 @@ const Page = {
         const chip = element("label", "chip"), input = element("input");
         input.type = "checkbox";
         input.value = name;
-        input.onchange = () => { if (input.checked) this.who.add(name); else this.who.delete(name); this.show(); };
+        input.onchange = () => { this.is_stand_in = false; if (input.checked) this.who.add(name); else this.who.delete(name); this.show(); };
         chip.append(input, element("span", "", this.is_list() ? "task " + name : Read.plain(name)));
         return chip;
       }));
@@ -227,6 +231,7 @@ const Page = {
     $("who").dataset.said = "";
     this.sorted();
     this.missed.clear();
+    this.is_stand_in = false;
     this.who = new Set(who || []);
     this.at = at === undefined ? Infinity : at;
     return this.show();

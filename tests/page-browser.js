@@ -261,6 +261,39 @@ async function main() {
 
     await beside({ value, open, ready, size });
 
+    // the page opens on the first example, after the first command behind `# from here`; links in its head lead to its foot, and leave the address as it is
+    await open("");
+    const first = await value(`JSON.stringify([document.getElementById("example").value, document.getElementById("place").textContent, document.querySelector("#told .now .command").textContent])`);
+    says("the first step: " + first, first === JSON.stringify(["vote.hurd", "after 6 of 11: alice$ cat /tmp/vote", "alice$ cat /tmp/vote"]));
+    for (const id of ["proved", "not-proved"]) says("a link to " + id, await value(`(() => { const hash = location.hash; document.querySelector('nav a[href="#${id}"]').click(); return location.hash === hash && document.activeElement.id === "${id}" && window.scrollY > 0; })()`));
+    await value("window.scrollTo(0, 0)");
+
+    // by which command it could be found out, as `hurd learn --how` prints it
+    for (const [name, who] of [["vote", "alice"], ["learned-secret", "alice"], ["learned-server", "alice"]]) {
+      const text = readFileSync(`examples/${name}.hurd`, "utf8"), told = spawnSync(process.env.HURD, ["learn", "--how", who, "-"], { input: text }).stdout.toString().split("\n").filter(line => line.startsWith("    ")).map(line => line.slice(4));
+      await open(`example=${name}.hurd&who=${who}`);
+      await value(`document.getElementById("how").click()`);
+      await ready();
+      const shown = await value(`[...document.querySelectorAll("#told .found")].map(line => line.textContent)`);
+      says(`how ${who} could find out, in ${name}: ${JSON.stringify(shown).slice(0, 300)}`, told.length > 2 && JSON.stringify(shown) === JSON.stringify(told));
+      await value(`document.getElementById("how").click()`);
+      says("and without", await ready() === "yes" && await value(`document.querySelectorAll("#told .found").length`) === 0);
+    }
+
+    // what others see and she doesn't; the keys; a text that was edited, and a user who is gone for a while
+    await open("example=learned-secret.hurd&who=alice");
+    says("what is not seen", await value(`[...document.querySelectorAll("#sees li")].map(it => it.textContent).join()`) === "/home/bob/diary");
+    const press = letter => value(`document.body.dispatchEvent(new KeyboardEvent("keydown", { key: "${letter}", bubbles: true }))`).then(ready).then(() => value(`document.getElementById("at").value`));
+    const at = await value(`document.getElementById("at").value`), back = await press("k");
+    await value(`document.getElementById("keys").click()`);
+    says("the keys, on and off", Number(back) === Number(at) - 1 && await press("k") === back && await value(`document.getElementById("keys").click(), true`) && await press("j") === at);
+    const typed = async text => { await value(`{ const box = document.getElementById("text"); box.value = ${JSON.stringify(text)}; box.dispatchEvent(new Event("input")); document.body.dataset.ready = "no"; }`); return ready(); };
+    const diary = readFileSync("examples/learned-secret.hurd", "utf8"), chosen = () => value(`[...document.querySelectorAll("#who input:checked")].map(input => input.value).join()`);
+    await typed(diary.replace(/^.*alice.*\n/gm, ""));
+    const without = await chosen();
+    await typed(diary + "root ls /\n");
+    says(`an edited text: ${without}, ${await chosen()}`, without === "bob" && await chosen() === "alice" && await value(`document.getElementById("example").value`) === "" && await value(`document.getElementById("about").textContent`) === "Your own script.");
+
     // after `usage` the page says how the command is written
     await open(`script=${Buffer.from("root put /a hello world\nroot ls -q\nroot put /a usage\nroot cat /a\n").toString("base64url")}&who=root`);
     const hints = await value(`JSON.stringify([...document.querySelectorAll("#told .part")].map(part => [...part.querySelectorAll(".sum")].map(line => line.textContent).join()))`);
