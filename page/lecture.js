@@ -11,6 +11,13 @@ const Lecture = {
     $("to-script").setAttribute("aria-pressed", String(!is_on));
   },
 
+  // a paragraph in which backticks mark code, and two asterisks what is bold
+  paragraph(kind, text) {
+    const made = element("p", kind);
+    made.append(...text.split(/(`[^`]+`|\*\*[^*]+\*\*)/).map(part => part[0] === "`" ? element("code", "", part.slice(1, -1)) : part.startsWith("**") ? element("strong", "", part.slice(2, -2)) : part));
+    return made;
+  },
+
   answer(is_shown) {
     $("answer").hidden = !is_shown;
     $("answer-button").setAttribute("aria-expanded", String(is_shown));
@@ -23,10 +30,10 @@ const Lecture = {
     $("step").value = this.at;
     $("step-back").disabled = this.at === 0;
     $("step-on").disabled = this.at === steps.length - 1;
-    $("step-text").replaceChildren(...step.text.map(text => element("p", "", text)));
-    $("question").textContent = step.question || "";
+    $("step-text").replaceChildren(...step.text.map(text => this.paragraph("", text)));
+    $("question").replaceChildren(...this.paragraph("", step.question || "").childNodes);
     $("answer-button").hidden = !step.answer;
-    $("answer").replaceChildren(...(step.wrong ? [element("p", "sum", "Most say: " + step.wrong)] : []), element("p", "", step.answer || ""));
+    $("answer").replaceChildren(...(step.wrong ? [this.paragraph("sum", "Most say: " + step.wrong)] : []), this.paragraph("", step.answer || ""));
     this.answer(false);
     history.replaceState(null, "", location.href.split("#")[0] + "#lecture=" + this.at);
     if (step.script) return Page.open(step.script, "script", step.who, step.at, "");
@@ -37,7 +44,6 @@ const Lecture = {
   },
 
   begin() {
-    this.kit.steps.unshift({ title: "The Hurd in ten minutes", minutes: "", text: this.kit.hurd, example: "strangers-file.hurd", who: ["alice"] });
     $("step").append(...this.kit.steps.map((step, k) => { const option = element("option", "", step.title + (/^\d/.test(step.minutes) ? ` (${step.minutes} min)` : "")); option.value = k; return option; }));
     $("step").onchange = () => this.open(Number($("step").value));
     $("step-back").onclick = () => this.open(this.at - 1);

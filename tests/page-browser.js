@@ -268,6 +268,18 @@ async function main() {
     for (const id of ["proved", "not-proved"]) says("a link to " + id, await value(`(() => { const hash = location.hash; document.querySelector('nav a[href="#${id}"]').click(); return location.hash === hash && document.activeElement.id === "${id}" && window.scrollY > 0; })()`));
     await value("window.scrollTo(0, 0)");
 
+    // each step of the lecture: its texts, its script, where it opens, and its answer
+    const lecture = JSON.parse(readFileSync("page/lecture.json", "utf8")).steps, bare = text => (text || "").replace(/`|\*\*/g, "");
+    for (const [k, step] of lecture.entries()) {
+      const text = step.script || readFileSync(`examples/${step.example}.hurd`, "utf8"), is_shown = await open("lecture=" + k) === "yes";
+      const shown = await value(`JSON.stringify([[...document.querySelectorAll("#step-text p")].map(it => it.textContent), document.getElementById("question").textContent, document.getElementById("text").value])`);
+      const at = Number(await value(`document.getElementById("at").value`)), last = Number(await value(`document.getElementById("at").max`));
+      await value(`document.getElementById("answer-button").click()`);
+      const answer = await value(`document.getElementById("answer").hidden ? "" : document.querySelector("#answer p:last-child").textContent`);
+      says(`step ${k} of the lecture`, is_shown && shown === JSON.stringify([step.text.map(bare), bare(step.question), text]) && at === (step.at === undefined ? last : step.at) && at <= last && answer === bare(step.answer));
+    }
+    await open("");
+
     // by which command it could be found out, as `hurd learn --how` prints it
     for (const [name, who] of [["vote", "alice"], ["learned-secret", "alice"], ["learned-server", "alice"]]) {
       const text = readFileSync(`examples/${name}.hurd`, "utf8"), told = spawnSync(process.env.HURD, ["learn", "--how", who, "-"], { input: text }).stdout.toString().split("\n").filter(line => line.startsWith("    ")).map(line => line.slice(4));
@@ -336,7 +348,7 @@ async function main() {
     console.log(`page: ${opened}; ${long} (medians of five, on this machine)`);
 
     if (folder) {
-      for (const [name, width, height, dark, words] of [["wide", 1280, 800, false, "example=learned-server.hurd&who=alice"], ["phone", 390, 844, false, "example=learned-server.hurd&who=alice"], ["dark", 1280, 800, true, "example=learned-target.hurd&who=alice&at=12"], ["lecture", 1280, 800, false, "lecture=2"], ["list", 1280, 800, false, "example=learned-pipe.calls&who=1"], ["bad", 1280, 800, false, `script=${Buffer.from("user alice 1000 1000\nroot mkdir /home\nalice cat /home\\q\nalice ls /\n").toString("base64url")}&who=alice`], ["bad-phone", 390, 844, false, `list=${Buffer.from("task 0 0\n0 io_stat 1\n0 io_stat\n").toString("base64url")}&who=0`], ["stranger", 1280, 800, false, "example=learned-secret.hurd&who=carol"], ["nobody", 1280, 800, false, `list=${Buffer.from("# nobody is here\n").toString("base64url")}`]]) {
+      for (const [name, width, height, dark, words] of [["first", 1280, 800, false, ""], ["small", 1024, 768, false, ""], ["wide", 1280, 800, false, "example=learned-server.hurd&who=alice"], ["phone", 390, 844, false, "example=learned-server.hurd&who=alice"], ["dark", 1280, 800, true, "example=learned-target.hurd&who=alice&at=12"], ["lecture", 1280, 800, false, "lecture=2"], ["list", 1280, 800, false, "example=learned-pipe.calls&who=1"], ["bad", 1280, 800, false, `script=${Buffer.from("user alice 1000 1000\nroot mkdir /home\nalice cat /home\\q\nalice ls /\n").toString("base64url")}&who=alice`], ["bad-phone", 390, 844, false, `list=${Buffer.from("task 0 0\n0 io_stat 1\n0 io_stat\n").toString("base64url")}&who=0`], ["stranger", 1280, 800, false, "example=learned-secret.hurd&who=carol"], ["nobody", 1280, 800, false, `list=${Buffer.from("# nobody is here\n").toString("base64url")}`]]) {
         await size(width, height, dark);
         await open(words);
         await shoot(name);
