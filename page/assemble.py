@@ -43,6 +43,11 @@ def about(name, script):
     return said[0].upper() + said[1:]
 
 
+def version():
+    """The version of the program, as `hurd --version` prints it."""
+    return re.search(r'^pub const VERSION: &str = "([^"<>&]*)";$', text(TOP, "crates", "hurd", "src", "release.rt"), re.M)[1]
+
+
 def users(script):
     return [line.split()[1] for line in script.split("\n") if line.startswith("user ")]
 
@@ -96,7 +101,7 @@ def main():
     policy = "default-src 'none'; script-src " + hashed(script) + " 'wasm-unsafe-eval'; worker-src blob:; style-src " + hashed(style) + "; base-uri 'none'; form-action 'none'"
     page = text(HERE, "index.html")
     for mark, content in {
-        "<!-- policy -->": f'<meta http-equiv="Content-Security-Policy" content="{policy}">\n<meta name="sources" content="{sources.total()}">\n<meta name="toolchain" content="{sources.toolchain() or sys.exit(NO_TOOLCHAIN)}">',
+        "<!-- policy -->": f'<meta http-equiv="Content-Security-Policy" content="{policy}">\n<meta name="sources" content="{sources.total()}">\n<meta name="toolchain" content="{sources.toolchain() or sys.exit(NO_TOOLCHAIN)}">\n<meta name="version" content="{version()}">',
         "<!-- style -->": f"<style>{style}</style>",
         "<!-- blocks -->": blocks + f"<script>{script}</script>",
     }.items():

@@ -320,7 +320,8 @@ const Page = {
     };
     window.onhashchange = () => this.from_address();
     if (typeof WebAssembly === "undefined" || typeof Worker === "undefined") { this.say("This browser can't run the program: it lacks WebAssembly or workers.", true); return; }
-    $("made").textContent = "Built from sources with the checksum " + document.querySelector("meta[name=sources]").content.slice(0, 16) + ".";
+    const made = name => document.querySelector(`meta[name=${name}]`).content;
+    $("made").textContent = `Version ${made("version")}, built from sources with the checksum ${made("sources").slice(0, 16)}.`;
     Lecture.begin();
     Beside.begin();
     this.from_address();

@@ -18,7 +18,14 @@ def named(step):
 
 
 def introduction(steps):
-    return "\n\n".join(next(step for step in steps if step["title"] == "The Hurd in ten minutes")["text"])
+    return "\n\n".join(text for step in steps if step.get("introduction") for text in step["text"])
+
+
+def introduced(steps):
+    """The row of the plan for the steps of the introduction."""
+    parts = [step for step in steps if step.get("introduction")]
+    scripts = list(dict.fromkeys(named(step) for step in parts))
+    return f"| {parts[0]['minutes'].split('-')[0]}-{parts[-1]['minutes'].split('-')[1]} | The Hurd in ten minutes | {', '.join(scripts)} | |"
 
 
 def first_sentence(text):
@@ -27,10 +34,11 @@ def first_sentence(text):
 
 def plan(steps):
     rows = ["| minutes | what | script | the question to vote on |", "|---|---|---|---|"]
-    for step in steps:
-        if re.match(r"\d", step["minutes"]):
-            question = f"{step['question']} (*{first_sentence(step['answer'])}*)" if step.get("question") else ""
-            rows.append(f"| {step['minutes']} | {step['title']} | {named(step) if step.get('question') else ''} | {question} |")
+    for number, step in enumerate(steps):
+        if step.get("introduction"):
+            rows += [] if steps[number - 1].get("introduction") else [introduced(steps)]
+        elif re.match(r"\d", step["minutes"]):
+            rows.append(f"| {step['minutes']} | {step['title']} | {named(step)} | {step['question']} (*{first_sentence(step['answer'])}*) |")
     return "\n".join(rows)
 
 
