@@ -6,40 +6,30 @@ is kept for later runs. One thing is different: the clang that compiles the prov
 the program is proved.
 """
 import functools
-import importlib.machinery
-import importlib.util
 import os
 import shutil
 import sys
 import tempfile
 
 TOP = os.path.dirname(os.path.dirname(os.path.abspath(__file__)))
+sys.path.insert(0, os.path.join(TOP, "tools"))
+import kit
+
 CLANG = """#!/bin/bash
 for word in "$@"; do case "$word" in *.bc) cp "$word" {room}/kept.bc;; esac; done
 exec {kit}/toolchain/bin/clang "$@"
 """
 
 
-def load_rt():
-    """The kit's own rt, as a Python module."""
-    found = shutil.which("rt")
-    if not found:
-        sys.exit("page/build: there is no toolchain: rt is not on the path")
-    loader = importlib.machinery.SourceFileLoader("kit_rt", os.path.realpath(found))
-    module = importlib.util.module_from_spec(importlib.util.spec_from_loader("kit_rt", loader))
-    loader.exec_module(module)
-    return module
-
-
-def keeping(kit, room):
+def keeping(at, room):
     """A toolchain whose clang keeps its input."""
     os.makedirs(f"{room}/bin")
-    os.symlink(f"{kit}/toolchain/lib", f"{room}/lib")
-    for name in os.listdir(f"{kit}/toolchain/bin"):
+    os.symlink(f"{at}/toolchain/lib", f"{room}/lib")
+    for name in os.listdir(f"{at}/toolchain/bin"):
         if name != "clang":
-            os.symlink(f"{kit}/toolchain/bin/{name}", f"{room}/bin/{name}")
+            os.symlink(f"{at}/toolchain/bin/{name}", f"{room}/bin/{name}")
     with open(f"{room}/bin/clang", "w", encoding="utf-8") as file:
-        file.write(CLANG.format(room=room, kit=kit))
+        file.write(CLANG.format(room=room, kit=at))
     os.chmod(f"{room}/bin/clang", 0o755)
 
 
@@ -62,7 +52,7 @@ def keep_module(rt, name, room):
 
 def main():
     name, to = sys.argv[1], os.path.abspath(sys.argv[2])
-    rt = load_rt()
+    rt = kit.load_rt()
     os.chdir(TOP)
     with tempfile.TemporaryDirectory() as room:
         keeping(rt.KIT, room)

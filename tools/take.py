@@ -3,24 +3,13 @@
 
 It does what the kit's rt does before it proves a crate. It stops at the first library that nothing on this machine proved: the status is then 1.
 """
-import importlib.machinery
-import importlib.util
 import os
 import shutil
 import sys
 
+import kit
+
 TOP = os.path.dirname(os.path.dirname(os.path.abspath(__file__)))
-
-
-def load_rt():
-    """The kit's own rt, as a Python module."""
-    found = shutil.which("rt")
-    if not found:
-        sys.exit("take.py: there is no toolchain: rt is not on the path")
-    loader = importlib.machinery.SourceFileLoader("kit_rt", os.path.realpath(found))
-    module = importlib.util.module_from_spec(importlib.util.spec_from_loader("kit_rt", loader))
-    loader.exec_module(module)
-    return module
 
 
 def take(kept, crate):
@@ -37,7 +26,7 @@ def take(kept, crate):
 
 
 def main():
-    rt = load_rt()
+    rt = kit.load_rt()
     os.chdir(TOP)
     # lowest first
     libraries = [crate for crate in rt.crates_of(TOP) if not crate.is_program and not crate.is_static]
