@@ -4,17 +4,20 @@
 //! sent away, and how often it was dropped. Boxes are numbered as they come; number 0 is the boot server's. In the end the world is dropped.
 //! `hurd_counts at-once < list` makes all calls by one `World::run`, and says behind the last what became of boxes.
 //! `hurd_counts chain N` reads nothing: it makes a chain of N servers, each behind a file of the one before, of 1 to 100,000, and says how many go in the one
-//! call by which the first loses its seat. Statuses and lines on standard error are those of `hurd`; other words have status 2.
+//! call by which the first loses its seat.
+//! `hurd_counts last-port` reads nothing: it gives a task the last ports that have numbers, and asks for more. Statuses and lines on standard error are those of `hurd`; other words have status 2.
 #![tactic(auto)]
 
 mod at_once;
 mod boxes;
 mod chain;
 mod counted;
+mod last_port;
 mod run;
 
 use chain::chain;
 use hurd_terminal::{Input, Output, finish};
+use last_port::last_port;
 use run::{Manner, program};
 use std::process::ExitCode;
 use std::{env, io};
@@ -24,7 +27,7 @@ const NO_MEMORY: &[u8] = b"hurd: out of memory\n";
 
 /// What is said of other words.
 const OTHER_WORDS: &[u8] =
-    b"hurd_counts: its only words are at-once, or chain and a number of servers, from 1 to 100,000\n";
+    b"hurd_counts: its only words are at-once, last-port, or chain and a number of servers, from 1 to 100,000\n";
 
 /// The most servers of a chain.
 const MOST_SERVERS: u64 = 100_000;
@@ -35,6 +38,8 @@ enum Asked {
     List(Manner),
     /// A chain of so many servers.
     Chain(u64),
+    /// The last ports.
+    LastPort,
 }
 
 /// What the words behind the program's name ask for; else what is said of these.
@@ -55,6 +60,7 @@ fn asked_by(words: &[String]) -> Result<Asked, &'static [u8]> {
     match words {
         [_] => Ok(Asked::List(Manner::InTurn)),
         [_, word] if word.as_str() == "at-once" => Ok(Asked::List(Manner::AtOnce)),
+        [_, word] if word.as_str() == "last-port" => Ok(Asked::LastPort),
         [_, word, number] if word.as_str() == "chain" => match servers(number) {
             Some(servers) => Ok(Asked::Chain(servers)),
             None => Err(OTHER_WORDS),
@@ -93,6 +99,13 @@ fn main(rt: HostRuntime) -> ExitCode {
         Asked::Chain(servers) => finish(
             chain(rt.alloc(), servers, &mut output),
             b"the chain",
+            b"",
+            b"",
+            &mut errors,
+        ),
+        Asked::LastPort => finish(
+            last_port(rt.alloc(), &mut output),
+            b"the last port",
             b"",
             b"",
             &mut errors,
