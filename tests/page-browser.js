@@ -261,7 +261,7 @@ async function main() {
 
     await beside({ value, open, ready, size });
 
-    // the page opens on the first example, after the first command behind `# from here`; links in its head lead to its foot, and leave the address as it is
+    // the page opens on the first example, after the first command that follows `# from here`; links in its head lead to its foot, and leave the address as it is
     await open("");
     const first = await value(`JSON.stringify([document.getElementById("example").value, document.getElementById("place").textContent, document.querySelector("#told .now .command").textContent])`);
     says("the first step: " + first, first === JSON.stringify(["vote.hurd", "after 6 of 11: alice$ cat /tmp/vote", "alice$ cat /tmp/vote"]));
