@@ -128,7 +128,7 @@ fn reason(kind: ErrorKind) -> &'static [u8] {
     }
 }
 
-/// Says that a file can't be opened, and why; answers the exit status.
+/// Says that a file can't be opened, and why; returns the exit status.
 fn unopened(rt: &HostRuntime, name: &[u8], kind: ErrorKind) -> u8 {
     let mut errors = Output::new(rt.stderr());
     let _ = errors.print(b"hurd: ");
@@ -147,7 +147,7 @@ fn await_text(rt: &HostRuntime) {
     }
 }
 
-/// Does what is asked of one file; answers the exit status.
+/// Does what is asked of one file; returns the exit status.
 fn serve_one(
     rt: &HostRuntime,
     wanted: &Wanted,
@@ -165,7 +165,7 @@ fn serve_one(
     }
 }
 
-/// Compares a script that a reader gives with that of a second file; answers the exit status.
+/// Compares a script that a reader gives with that of a second file; returns the exit status.
 fn compare_second<R: Read + Drop>(rt: &HostRuntime, pair: &Pair<'_>, one: R, two: &str) -> u8 {
     if two == "-" {
         await_text(rt);
@@ -177,7 +177,7 @@ fn compare_second<R: Read + Drop>(rt: &HostRuntime, pair: &Pair<'_>, one: R, two
     }
 }
 
-/// Compares the scripts of two files; answers the exit status.
+/// Compares the scripts of two files; returns the exit status.
 fn compare_files(rt: &HostRuntime, pair: &Pair<'_>, one: &str, two: &str) -> u8 {
     if one != "-" {
         return match File::open(rt, one) {
@@ -195,7 +195,7 @@ fn compare_files(rt: &HostRuntime, pair: &Pair<'_>, one: &str, two: &str) -> u8 
     compare_second(rt, pair, rt.reader(), two)
 }
 
-/// Compares the scripts that are asked for; answers the exit status.
+/// Compares the scripts that are asked for; returns the exit status.
 fn compare_pair(rt: &HostRuntime, who: &str, one: &str, two: &str, most: Option<usize>) -> u8 {
     let (Ok(first), Ok(second)) = (name_of(rt.alloc(), one), name_of(rt.alloc(), two)) else {
         return trouble(rt, b"hurd: out of memory\n");
@@ -209,7 +209,7 @@ fn compare_pair(rt: &HostRuntime, who: &str, one: &str, two: &str, most: Option<
     compare_files(rt, &pair, one, two)
 }
 
-/// Does what is asked of the files; answers the exit status.
+/// Does what is asked of the files; returns the exit status.
 pub fn serve(rt: &HostRuntime, words: &Words) -> u8 {
     let most = words.most;
     match &words.asked {

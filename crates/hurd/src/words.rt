@@ -220,7 +220,7 @@ fn request_of(alloc: Global, verb: &str, matches: &ArgMatches<'_>) -> Result<Ask
     Ok(Asked::Text { wanted, file })
 }
 
-/// Says a line on standard error; answers the exit status of trouble.
+/// Says a line on standard error; returns the exit status of trouble.
 pub fn trouble(rt: &HostRuntime, line: &[u8]) -> u8 {
     let mut errors = Output::new(rt.stderr());
     let _ = errors.print(line);

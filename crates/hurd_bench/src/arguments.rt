@@ -13,7 +13,7 @@ const SAMPLE: usize = 100;
 /// The most files of a run.
 const MOST_FILES: usize = 10_000_000;
 
-/// What sort of server comes behind files.
+/// What sort of server comes on files.
 #[derive(Clone, Copy)]
 pub enum Kind {
     /// A file that gives a short text.

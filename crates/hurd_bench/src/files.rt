@@ -48,7 +48,7 @@ pub fn directory_of(file: usize) -> usize {
 /// So many bytes have room for the longest path.
 const PATH_ROOM: usize = 24;
 
-/// A letter with a number behind a text.
+/// A letter with a number after a text.
 fn push_numbered(text: &mut Vec<u8>, letter: u8, number: usize) -> Result<(), AllocError> {
     let mut buffer = Buffer::new();
     text.push(letter)?;

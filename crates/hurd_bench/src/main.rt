@@ -90,7 +90,7 @@ fn before_servers<S: Server>(
     Row::begin(rt, Work::Serve)
 }
 
-/// Puts one server more, which some words made, behind a file; whether the work has gone on for so long that it ends, which it never has where no
+/// Puts one server more, which some words made, on a file; whether the work has gone on for so long that it ends, which it never has where no
 /// times are printed.
 fn serve_one<S: Server>(
     rt: &impl Clock,
@@ -107,7 +107,7 @@ fn serve_one<S: Server>(
     Ok(asked.timed && row.took(rt)?.as_secs() >= LONG_ENOUGH)
 }
 
-/// Puts servers behind files of which the work takes one after another.
+/// Puts servers on files of which the work takes one after another.
 #[tactic(auto, unfolding(hurd_kinds::specs::Boxes::box_meaning))]
 fn serve_all(
     rt: &impl Clock,

@@ -79,7 +79,7 @@ impl<S: Server> Tree<S> {
         Ok(times)
     }
 
-    /// Sends so many servers away, those that came first, in the order in which they came, each so many files behind the last.
+    /// Sends so many servers away, those that came first, in the order in which they came, each so many files after the last.
     pub fn send_all_away(&mut self, files: usize, stride: usize, served: u64) -> Result<(), Errno>
         requires { 0 < stride }
     {
@@ -224,7 +224,7 @@ impl<S: Server> Tree<S> {
         self.close(port)
     }
 
-    /// Puts a server, which some words made, behind a new file beside this one.
+    /// Puts a server, which some words made, on a new file beside this one.
     pub fn serve(&mut self, file: usize, server: S) -> Result<(), Errno>
         requires { Begins (S.meaning server) }
     {

@@ -11,7 +11,7 @@ pub enum Work {
     Stat,
     /// Its directory is opened, the file gets another name in it, and the directory is closed.
     Rename,
-    /// A new file is made beside it, a server is put behind that one, and that one is closed.
+    /// A new file is made beside it, a server is put on that one, and that one is closed.
     Serve,
     /// Its directory is opened, the file with the server loses its name, so that both go, and the directory is closed.
     SendAway,

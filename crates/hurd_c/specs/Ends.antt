@@ -62,7 +62,7 @@ KeepsWatch None None = Unit {0}
 KeepsWatch (Some old) (Some new) = SameWatch old new
 KeepsWatch _ _ = ⊥
 
--- those whom a word names are told from now on what they learn, or what is said is why not, and then nothing changed
+-- those that WHO names are told from now on what they learn, or what is said is why not, and then nothing changed
 abbrev pub WatchedIn : List ℕ → Sitting → Said → Sitting → Type 0
 WatchedIn who old said new =
     ((said ≡ said_of (Ok tt) (length (told_in old))) × Watches (tasks_in old) who (learners_in new) × SameStand old new)

@@ -33,7 +33,7 @@ OnlySays this said old new = (said ≡ this) × (new ≡ old)
 abbrev pub OfSort : ℕ → (Sort → Program) → List ℕ → Said → List ℕ → List ℕ → Type 0
 OfSort number program text said old new = MatchOption (sort_at number) (OnlySays unsorted said old new) (λ sort. Copies (program sort) text said old new)
 
--- what is told of those whom a word names; one that is no UTF-8 names nobody
+-- what is told of those that WHO names; one that is no UTF-8 names nobody
 abbrev pub CopiesOf : List ℕ → Program → List ℕ → Said → List ℕ → List ℕ → Type 0
 CopiesOf who p text said old new = (IsUtf8 who × Copies p text said old new) ⊎ ((IsUtf8 who → ⊥) × OnlySays (said_of (Err Unknown) 0) said old new)
 

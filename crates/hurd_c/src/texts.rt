@@ -52,7 +52,7 @@ fn told(alloc: Global, request: &Request, text: &[u8], out: &mut [u8]) -> Said
     ending(answer.ended, answer.told.len())
 }
 
-/// Runs a text in a world of its own, and copies what it tells as far as there is room. Of a bad text that is what stands behind the name of a file.
+/// Runs a text in a world of its own, and copies what it tells as far as there is room. Of a bad text that is what comes after the name of a file.
 #[unsafe(no_mangle)]
 pub extern "C" fn hurd_run(alloc: Global, sort: u32, text: &[u8], out: &mut [u8]) -> Said
     ensures { OfSort sort running text.now result out.old out.new }
@@ -64,8 +64,8 @@ pub extern "C" fn hurd_run(alloc: Global, sort: u32, text: &[u8], out: &mut [u8]
     told(alloc, &Request { sort, verb }, text, out)
 }
 
-/// The same, with what those learn whom a word names: users by their names, or tasks by their numbers, between commas. Where one of them isn't in the text,
-/// what stands behind the name of a file is copied.
+/// The same, with what those that WHO names learn: users by their names, or tasks by their numbers, between commas. Where one of them isn't in the text,
+/// what comes after the name of a file is copied.
 #[unsafe(no_mangle)]
 pub extern "C" fn hurd_learn(
     alloc: Global,
@@ -111,7 +111,7 @@ pub extern "C" fn hurd_see(
     }
 }
 
-/// The same of a picture of the world at the end of a text. What those see whom a word names is marked; nobody's sight is where it has no bytes.
+/// The same of a picture of the world at the end of a text. What those that WHO names see is marked; nobody's sight is where it has no bytes.
 #[unsafe(no_mangle)]
 pub extern "C" fn hurd_draw(
     alloc: Global,

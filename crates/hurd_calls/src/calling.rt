@@ -16,7 +16,7 @@ use hurd_words::answers::Answer;
 use hurd_world::{Reply, World};
 use std::alloc::{AllocError, Global};
 
-/// The server that the words of a call make, where it brings any; none also where no kind takes them. An error is want of memory.
+/// The server that the words of a call make, where it brings any; none also where no kind takes them. Fails only if memory runs out.
 pub fn brought(alloc: Global, words: &Option<Words>) -> Result<Option<ServerBox>, AllocError>
     ensures { IfOk result (λ server. begun words.now ≡ option_map box_meaning server) }
 {

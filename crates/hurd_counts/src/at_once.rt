@@ -25,7 +25,7 @@ struct Ready<S> {
     lines: Vec<Bytes>,
 }
 
-/// One call more, with the server that its words make. An error is want of memory.
+/// One call more, with the server that its words make. Fails only if memory runs out.
 fn add<S: Server>(
     ready: &mut Ready<S>,
     listed: ListedCall<S>,
@@ -109,7 +109,7 @@ fn tell_all<S: Server, W: Write>(
     Ok(())
 }
 
-/// Makes all calls of a list at once, each with the server that it brings, and prints them with their replies; behind these, what became of boxes.
+/// Makes all calls of a list at once, each with the server that it brings, and prints them with their replies; after these, what became of boxes.
 ///
 /// Faults as of `tell`.
 pub fn make_at_once<W: Write>(

@@ -1,4 +1,4 @@
-//! A chain of servers, each behind a file of the one before, that all go in one call.
+//! A chain of servers, each on a file of the one before, that all go in one call.
 //!
 //! One list of calls has no room for ten thousand of them, so each comes by a list of its own.
 use crate::boxes::Boxes;
@@ -20,7 +20,7 @@ fn root_port(number: u64) -> u64 {
     number.saturating_mul(3).saturating_add(2)
 }
 
-/// The calls that put the tree of this number behind a file of the one before, and keep a port on its root alone.
+/// The calls that put the tree of this number on a file of the one before, and keep a port on its root alone.
 fn link(alloc: Global, number: u64) -> Result<String, AllocError> {
     let root = root_port(number.saturating_sub(1));
     let seat = number.saturating_mul(3);
@@ -35,7 +35,7 @@ fn link(alloc: Global, number: u64) -> Result<String, AllocError> {
     )
 }
 
-/// The calls that give up what the link of this number left but for the root of its own server.
+/// The calls that give up what the link of this number left except for the root of its own server.
 fn less(alloc: Global, number: u64) -> Result<String, AllocError> {
     let root = root_port(number.saturating_sub(1));
     let seat = number.saturating_mul(3);
@@ -65,7 +65,7 @@ fn make_silently(
     Ok(())
 }
 
-/// Puts the server of this number behind the one before.
+/// Puts the server of this number on a file of the one before.
 ///
 /// Faults as of `make_silently`.
 fn extend(
@@ -83,7 +83,7 @@ fn extend(
     make_silently(world, alloc, boxes, text.as_bytes())
 }
 
-/// Makes a chain of so many servers, and lets the first lose its seat; says before and behind that call what became of boxes in all.
+/// Makes a chain of so many servers, and lets the first lose its seat; says before and after that call what became of boxes in all.
 ///
 /// `Bad`, `Boot`, `Write`, `Memory`.
 #[tactic(auto, unfolding(hurd_kinds::specs::Boxes::box_meaning))]

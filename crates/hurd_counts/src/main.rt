@@ -1,9 +1,9 @@
 //! For tests: makes a list of calls, as `hurd run --calls -` does, with boxes that count what becomes of them.
 //!
-//! `hurd_counts < list` prints what that prints, and behind each call a line for each box of which something became: how often in all it was told that it is
+//! `hurd_counts < list` prints what that prints, and after each call a line for each box of which something became: how often in all it was told that it is
 //! sent away, and how often it was dropped. Boxes are numbered as they come; number 0 is the boot server's. In the end the world is dropped.
-//! `hurd_counts at-once < list` makes all calls by one `World::run`, and says behind the last what became of boxes.
-//! `hurd_counts chain N` reads nothing: it makes a chain of N servers, each behind a file of the one before, of 1 to 100,000, and says how many go in the one
+//! `hurd_counts at-once < list` makes all calls by one `World::run`, and says after the last what became of boxes.
+//! `hurd_counts chain N` reads nothing: it makes a chain of N servers, each on a file of the one before, of 1 to 100,000, and says how many go in the one
 //! call by which the first loses its seat.
 //! `hurd_counts last-port` reads nothing: it gives a task the last ports that have numbers, and asks for more. Statuses and lines on standard error are those of `hurd`; other words have status 2.
 #![tactic(auto)]
@@ -42,7 +42,7 @@ enum Asked {
     LastPort,
 }
 
-/// What the words behind the program's name ask for; else what is said of these.
+/// What the words after the program's name ask for; else what is said of these.
 fn read_words(rt: &HostRuntime) -> Result<Asked, &'static [u8]> {
     let arguments = match env::args(rt) {
         Ok(arguments) => arguments,

@@ -105,7 +105,7 @@ pub enum Manner {
     AtOnce,
 }
 
-/// Makes the calls of a list over an empty tree in memory, and says what became of boxes: behind each call, or behind all where they are made at once.
+/// Makes the calls of a list over an empty tree in memory, and says what became of boxes: after each call, or after all where they are made at once.
 ///
 /// `Bad`, `Boot`, `Write`, `Memory`.
 #[tactic(auto, unfolding(hurd_kinds::specs::Boxes::box_meaning))]
@@ -140,7 +140,7 @@ fn run_text<W: Write>(
     boxes.tell(alloc, output)
 }
 
-/// Says why a list is bad, or that memory was refused for that; answers the exit status.
+/// Says why a list is bad, or that memory was refused for that; returns the exit status.
 fn blame<E: Write>(alloc: Global, text: &[u8], line: u64, errors: &mut Output<E>) -> u8 {
     match complaint_of(alloc, text) {
         Ok(said) => finish(
@@ -154,7 +154,7 @@ fn blame<E: Write>(alloc: Global, text: &[u8], line: u64, errors: &mut Output<E>
     }
 }
 
-/// Runs a list, and says of a fault why; answers the exit status.
+/// Runs a list, and says of a fault why; returns the exit status.
 fn run<W: Write, E: Write>(
     alloc: Global,
     text: &[u8],
@@ -168,7 +168,7 @@ fn run<W: Write, E: Write>(
     }
 }
 
-/// The whole program: reads a list, runs it, and says of a fault why; answers the exit status.
+/// The whole program: reads a list, runs it, and says of a fault why; returns the exit status.
 pub fn program<R: Read, W: Write, E: Write>(
     alloc: Global,
     manner: Manner,

@@ -20,7 +20,7 @@ shown bytes = concat (map shown_byte bytes)
 abbrev pub shown_line : List ℕ → List ℕ
 shown_line line = shown (take 200 line) ++ text_if (nat_lt 200 (length line)) (codes " ..")
 
--- what is said behind a file's name of a bad line: its number, what the text is, and a reason; at line 0 the reason alone
+-- what is said after a file's name of a bad line: its number, what the text is, and a reason; at line 0 the reason alone
 abbrev pub complaint_at : List ℕ → List ℕ → ℕ → List ℕ → List ℕ
 complaint_at noun text line reason =
     if line == 0 then codes ": " ++ (reason ++ codes "\n")

@@ -26,7 +26,7 @@ abbrev pub next_task : List Part → Option ℕ
 next_task [] = None
 next_task (part ∷ rest) = Some part.task
 
--- the world behind parts that are told one after another, from a world on
+-- the world after parts that are told one after another, from a world on
 unfoldable pub world_behind : World → List Part → World
 world_behind w [] = w
 world_behind w (part ∷ rest) = world_behind part.world rest

@@ -9,7 +9,7 @@ use Rattle.hurd_terminal.specs.declared.fault.Fault.{Fault}
 use Rattle.hurd_terminal.specs.declared.fault.Fault.TheVariants.{Bad, Boot, Memory}
 use Rattle.hurd_dialogue.specs.Parts.{Part, Way, joined, world_behind}
 
--- a sort of texts: what is said behind the name of a file whose text is bad, and what in front of somebody who isn't in a text; what is done in it, as ` command`;
+-- a sort of texts: what is said after the name of a file whose text is bad, and what in front of somebody who isn't in a text; what is done in it, as ` command`;
 -- the line at which a text is bad, whether its world may begin, that world, and what it tells; by how many lines that say something its parts are preceded,
 -- and one; the names of its tasks, if these have names; the task of a name, if it is in a text, and what the tasks of a word are called
 pub record Sort : Type 0 where

@@ -3,7 +3,7 @@ ghost use Rattle.std.specs.Prelude.{◌≡◌, IfOk};
 
 use std::alloc::{AllocError, Global};
 
-/// A value in a box. An error is want of memory, and then it is dropped.
+/// A value in a box. Fails only if memory runs out; then it is dropped.
 pub fn boxed<T: Drop>(alloc: Global, value: T) -> Result<Box<T>, AllocError>
     ensures { IfOk result (λ boxed. boxed.value ≡ value) }
 {

@@ -11,7 +11,7 @@ use std::alloc::{AllocError, Global};
 /// How many bytes of a line are shown.
 const MOST_SHOWN: usize = 200;
 
-/// A line of a text, by its number, counted from 1; nothing where there is none. An error is want of memory.
+/// A line of a text, by its number, counted from 1; nothing where there is none. Fails only if memory runs out.
 fn line_at<'a>(alloc: Global, text: &'a [u8], number: u64) -> Result<&'a [u8], AllocError>
     ensures { IfOk result (λ line. line.now ≡ line_at text.entry.now number) }
 {
@@ -55,7 +55,7 @@ fn front(line: &[u8]) -> &[u8]
 }
 
 /// Prints a line, or a text as one line: its first 200 bytes, and dots where there are more. A space stays as it is, and another byte has the escapes of
-/// lists. An error is want of memory.
+/// lists. Fails only if memory runs out.
 pub fn push_shown_line(text: &mut Vec<u8>, line: &[u8]) -> Result<(), AllocError>
     ensures { OnOk result (text.new.items ≡ text.old.items ++ shown_line line.now) }
 {
@@ -63,8 +63,8 @@ pub fn push_shown_line(text: &mut Vec<u8>, line: &[u8]) -> Result<(), AllocError
     push_if(text, line.len() > MOST_SHOWN, " ..")
 }
 
-/// What is said behind a file's name of a text that is bad at a line for this reason: the line's number, what the text is, as `: bad script: `, the
-/// reason, and below that the line; at line 0 the reason alone. An error is want of memory.
+/// What is said after a file's name of a text that is bad at a line for this reason: the line's number, what the text is, as `: bad script: `, the
+/// reason, and below that the line; at line 0 the reason alone. Fails only if memory runs out.
 pub fn complaint(
     alloc: Global,
     noun: &str,

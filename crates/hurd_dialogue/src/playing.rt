@@ -30,7 +30,7 @@ pub fn play<T: Telling, W: Write>(
     Ok(())
 }
 
-/// Goes on to the end, and prints nothing of what is left to tell. An error is want of memory.
+/// Goes on to the end, and prints nothing of what is left to tell. Fails only if memory runs out.
 pub fn play_silently<T: Telling>(alloc: Global, telling: &mut T) -> Result<(), AllocError>
     ensures { OnOk result ((T.way telling.new).world ≡ world_behind (T.way telling.old).world (T.way telling.old).left) }
 {

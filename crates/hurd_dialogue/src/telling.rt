@@ -75,7 +75,7 @@ pub trait Telling: Drop {
     fn finds(&self, name: &str) -> Option<TaskId>
         ensures { option_map (λ (t : TaskId). t.0) result ≡ (way self.now).finds name.now };
 
-    /// What the tasks of a word are called. An error is want of memory.
+    /// What the tasks of a word are called. Fails only if memory runs out.
     fn called(alloc: Global, word: &str, tasks: &[TaskId]) -> Result<Vec<u8>, AllocError>
         ensures { IfOk result (λ names. names.items ≡ sort.called word.now tasks.now) };
 
@@ -83,7 +83,7 @@ pub trait Telling: Drop {
     fn thing() -> &'static [u8]
         ensures { result.now ≡ sort.thing };
 
-    /// What is said behind the name of a file whose text is bad: the line, why, and what stands there; of a good text nothing. An error is want of memory.
+    /// What is said after the name of a file whose text is bad: the line, why, and what stands there; of a good text nothing. Fails only if memory runs out.
     fn complaint(alloc: Global, text: &[u8]) -> Result<Vec<u8>, AllocError>
         ensures { IfOk result (λ said. said.items ≡ sort.complaint text.now) };
 

@@ -41,7 +41,7 @@ pub record IsDrawn (names : List (List ℕ)) (marked : Option Marked) (w : World
   pub theirs : SeenBy marked w seen
   pub is : text ≡ picture titles (all_tasks w.tasks) view (called_of marked) seen
 
--- the picture of a text at its end, in which it is marked what those see whom a word names
+-- the picture of a text at its end, in which it is marked what those that WHO names see
 abbrev pub DrawnFor : Sort → Option (List ℕ) → List ℕ → List ℕ → Type 0
 DrawnFor sort None text printed = IsDrawn (sort.names text) None (last_world sort text) printed
 DrawnFor sort (Some word) text printed =

@@ -17,7 +17,7 @@ use hurd_world::World;
 use std::alloc::{AllocError, Global};
 use std::io::Write;
 
-/// The picture of a world whose tasks have these names. An error is want of memory.
+/// The picture of a world whose tasks have these names. Fails only if memory runs out.
 fn plain_picture<S: Server>(
     alloc: Global,
     world: &World<S>,
@@ -36,7 +36,7 @@ fn plain_picture<S: Server>(
     picture(alloc, &titles, tasks.as_slice(), &view, b"", None)
 }
 
-/// The same, in which it is marked what some see. An error is want of memory.
+/// The same, in which it is marked what some see. Fails only if memory runs out.
 fn marked_picture<S: Server>(
     alloc: Global,
     world: &World<S>,
@@ -65,7 +65,7 @@ fn marked_picture<S: Server>(
     )
 }
 
-/// The picture of a text at its end. An error is want of memory.
+/// The picture of a text at its end. Fails only if memory runs out.
 fn drawn<T: Telling>(alloc: Global, telling: &mut T) -> Result<Bytes, AllocError>
     ensures { IfOk result (λ text. IsDrawn (T.way telling.old).names None (world_behind (T.way telling.old).world (T.way telling.old).left) text) }
 {
@@ -74,7 +74,7 @@ fn drawn<T: Telling>(alloc: Global, telling: &mut T) -> Result<Bytes, AllocError
     plain_picture(alloc, telling.world(), names)
 }
 
-/// The same, in which it is marked what some see. An error is want of memory.
+/// The same, in which it is marked what some see. Fails only if memory runs out.
 fn drawn_for<T: Telling>(
     alloc: Global,
     telling: &mut T,
@@ -103,7 +103,7 @@ fn draw_all<T: Telling, W: Write>(
     output.print(drawn.as_slice())
 }
 
-/// The same, in which it is marked what those see whom a word names.
+/// The same, in which it is marked what those that WHO names see.
 fn draw_for<T: Telling, W: Write>(
     alloc: Global,
     word: &str,
@@ -122,7 +122,7 @@ fn draw_for<T: Telling, W: Write>(
     output.print(drawn.as_slice())
 }
 
-/// Begins a text, and prints a picture of the world at its end, in which it is marked what those see whom a word names, if there is one.
+/// Begins a text, and prints a picture of the world at its end, in which it is marked what those that WHO names see, if there is one.
 ///
 /// `Bad` with the line at which it is bad, `Boot` with its world's refusal, `Unknown` where somebody is named who isn't in it; `Memory`: then nothing is
 /// printed. `Write`: then a front is.

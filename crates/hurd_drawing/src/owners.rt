@@ -10,7 +10,7 @@ use hurd_pictures::Owner;
 use hurd_ports::TaskSeat;
 use std::alloc::{AllocError, Global};
 
-/// All tasks, by their rows. An error is want of memory.
+/// All tasks, by their rows. Fails only if memory runs out.
 pub(crate) fn all_tasks(alloc: Global, seats: &[TaskSeat]) -> Result<Vec<TaskId>, AllocError>
     requires { length seats.now ≤ most_tasks }
     ensures { IfOk result (λ tasks. tasks.items ≡ tasks_below (length seats.now)) }
@@ -22,7 +22,7 @@ pub(crate) fn all_tasks(alloc: Global, seats: &[TaskSeat]) -> Result<Vec<TaskId>
     Ok(tasks)
 }
 
-/// The names of tasks, as bytes. An error is want of memory.
+/// The names of tasks, as bytes. Fails only if memory runs out.
 pub(crate) fn copied_names(alloc: Global, names: &[String]) -> Result<Vec<Bytes>, AllocError>
     ensures { IfOk result (λ copies. copies.items ≡ map string_bytes names.now) }
 {
@@ -50,7 +50,7 @@ fn add_owner(
     Ok(())
 }
 
-/// What the users' ids of these tasks are called, by their names. An error is want of memory.
+/// What the users' ids of these tasks are called, by their names. Fails only if memory runs out.
 pub(crate) fn owners_of(
     alloc: Global,
     names: &[Bytes],

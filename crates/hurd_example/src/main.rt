@@ -1,4 +1,4 @@
-//! A first program over the tree: root writes a notice and puts a server behind a second file, and alice reads both.
+//! A first program over the tree: root writes a notice and puts a server on a second file, and alice reads both.
 #![tactic(auto)]
 
 ghost use Rattle.std.specs.Prelude.{◌≡◌, IfOk};
@@ -33,7 +33,7 @@ struct Told {
     greeting: String,
 }
 
-/// root writes the notice and puts a server behind a second file; alice reads both.
+/// root writes the notice and puts a server on a second file; alice reads both.
 fn visit<S: Server>(tree: &mut Tree<S>, server: S) -> Result<Told, Errno>
     requires { Begins (S.meaning server) }
 {

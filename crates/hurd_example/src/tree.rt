@@ -82,7 +82,7 @@ impl<S: Server> Tree<S> {
         }
     }
 
-    /// Puts a server, which some words made, behind a new file.
+    /// Puts a server, which some words made, on a new file.
     pub fn attach(&mut self, task: TaskId, path: &str, server: S) -> Result<(), Errno>
         requires { Begins (S.meaning server) }
     {

@@ -44,7 +44,7 @@ readdir_asks w t p =
     first (names_of (body_at w a.node)) (λ own.
     Ok (all_names w q.ids (branches_at w a.node) own)))))
 
--- dir_readdir: `.`, `..`, and the names of the entries in order; of a union, its own and behind these those of its branches
+-- dir_readdir: `.`, `..`, and the names of the entries in order; of a union, its own and after these those of its branches
 abbrev pub plan_readdir : World → ℕ → ℕ → Plan
 plan_readdir w t p = looks (readdir_asks w t p) (λ names. Names (codes "." ∷ codes ".." ∷ names))
 

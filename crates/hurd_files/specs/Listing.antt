@@ -20,7 +20,7 @@ abbrev pub names_by : World → IdSets → Name → Option Header → List (List
 names_by w ids b None = []
 names_by w ids b (Some h) = if may ids (bare h) Read then names_or (names_of (body_at w b)) else []
 
--- behind these the names in some directories, each once
+-- after these the names in some directories, each once
 abbrev pub all_names : World → IdSets → List Name → List (List ℕ) → List (List ℕ)
 all_names w ids [] seen = seen
 all_names w ids (b ∷ bs) seen = all_names w ids bs (merge seen (names_by w ids b (header_at w b)))

@@ -65,7 +65,7 @@ fn readdir_asked<S: Server>(
     Ok(all_names(core, alloc, &right.ids, branches, own)?)
 }
 
-/// These names behind `.` and `..`.
+/// These names after `.` and `..`.
 fn with_dots(alloc: Global, mut names: Names) -> Result<Names, AllocError>
     ensures { IfOk result (λ all. all ≡ codes "." ∷ codes ".." ∷ names) }
 {

@@ -41,7 +41,7 @@ fn branch_names<S: Server>(
     names_told(core, alloc, branch)
 }
 
-/// Behind these names those in some directories, in order, each once.
+/// After these names those in some directories, in order, each once.
 pub(crate) fn all_names<S: Server>(
     core: &Core<S>,
     alloc: Global,

@@ -15,7 +15,7 @@ use Rattle.hurd_machine.proofs.CallLaws.{CallLaws, answered_piece, answered_whol
 use Rattle.hurd_core.specs.Core.{attaching, naming_asks}
 use Rattle.hurd_machine.specs.declared.call.Setting.{Setting}
 use Rattle.hurd_lookup.specs.Lent.{lent, server_ids}
-use Rattle.hurd_fsys.specs.Setting.{sets_nothing, setter_asks, may_seat, is_excluded, may_replace, may_set, seat_asks, leaver, emptying, storing, seat_on, box_aims, seating, setting_where, plan_set_translator, GoesFor, seat_parts, parts_where, touches_set_translator, root_mode, root_kind, stored_asks, plan_get_translator, touches_get_translator}
+use Rattle.hurd_fsys.specs.Setting.{sets_nothing, setter_asks, may_seat, is_excluded, may_replace, may_set, seat_asks, leaver, emptying, storing, seat_on, box_aims, seating, setting_where, plan_set_translator, GoesFor, seat_parts, box_parts, parts_where, touches_set_translator, root_mode, root_kind, stored_asks, plan_get_translator, touches_get_translator}
 use Rattle.hurd_fsys.specs.Owned.{owned_asks}
 use Rattle.hurd_fsys.proofs.OwnedLaws.{Owner, owner, owner_right, owner_sees, owned_same, owned_plain}
 use Rattle.hurd_fsys.proofs.ControlLaws.{owner_holds}
@@ -125,9 +125,9 @@ module _ (t p : ℕ) (f : Setting) where
       targets_seen : (S : ℕ → Bool) → S t ≡ true → (m : Meaning) (targets : List Name) → box_aims w n (Some m) ≡ Ok targets → (q : Name) → IsAmong q targets → Seen S w q
       targets_seen S ours m targets is q among = aims_seen S w n.right.ids (right_taken S w n (owner_right t p ours n k)) n.header.owner ENXIO refl m targets is q among
 
-      box_whole : (o : Option Meaning) (targets : List Name) → box_aims w n o ≡ Ok targets → Whole t Written w w (spec.seated w t n f words o old targets).changes
+      box_whole : (o : Option Meaning) (targets : List Name) → box_aims w n o ≡ Ok targets → Whole t (Full w t (box_parts w t f o n.right.node old)) w w (spec.seated w t n f words o old targets).changes
       box_whole None targets found = emptied_whole
-      box_whole (Some m) targets found = answered_whole s (naming_asks w t 2) _ (λ x at.
+      box_whole (Some m) targets found = answered_piece s (naming_asks w t 2) _ (λ x. seat_parts w f n.right.node old) (λ x at.
           let is = counted_task w t (can_name 2) x at in
           let later = later_new w t 1 x is in
           let tasks = (like w n k).tasks in
@@ -136,10 +136,10 @@ module _ (t p : ℕ) (f : Setting) where
           comings_whole v t n.right.node n.header (like w n k).there m x (ap (λ (ts : List Task). slice_get ts t) tasks ∙ is) targets aims (stands y) (own_task w t (seat_parts w f n.right.node old)) (inr (inr later)) (inr (inr later))
           (inr (inr later)) (inr (inr later)) (inr (inr (fresh_new w t x is))) (inr (inr (fresh_new w t x is))) (inr (inr (fresh_new w t x is))) (inl (inl refl)) (leaver f old) (λ q is. ap (λ (rs : NameMap Site). active_in rs n.right.node) (like w n k).sites ∙ (e ∙ leaver_is old q is)) left_here (λ S ours q among. inl (targets_seen S ours m targets found q among))))
 
-    half_whole : (w : World) → Sound w → (n : Named) → Owner t p w n → (b : Bool) → Whole t (Full w t (parts_where b w f box n)) w w (setting_where b w t f words box n).changes
+    half_whole : (w : World) → Sound w → (n : Named) → Owner t p w n → (b : Bool) → Whole t (Full w t (parts_where b w t f box n)) w w (setting_where b w t f words box n).changes
     half_whole w s n k true = whole_none s
     half_whole w s n k false = answered_piece s (seat_asks w f n) (seating w t n f words box) _ (λ old is.
-        answered_piece s (box_aims w n box) (spec.seated w t n f words box old) (λ targets. seat_parts w f n.right.node old) (λ targets found. let seat = seated w n old is in box_whole w s n k seat.0 old seat.1 box targets found))
+        answered_piece s (box_aims w n box) (spec.seated w t n f words box old) (λ targets. box_parts w t f box n.right.node old) (λ targets found. let seat = seated w n old is in box_whole w s n k seat.0 old seat.1 box targets found))
 
     half_same : {S : ℕ → Bool} {v w : World} → Coherent v → Agree S v w → S t ≡ true → (n : Named) → Owner t p v n → (b : Bool) → setting_where b w t f words box n ≡ setting_where b v t f words box n
     half_same c a ours n k true = refl

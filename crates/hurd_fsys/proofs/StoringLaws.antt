@@ -15,7 +15,7 @@ use Rattle.hurd_machine.proofs.Filled.{tree_header}
 use Rattle.hurd_machine.proofs.Piece.{Whole, stands, whole_none, quiet, of_header}
 use Rattle.hurd_machine.proofs.Permits.{AllExact}
 
--- a world like another, but for the headers of its nodes; this node is there
+-- a world like another, except for the headers of its nodes; this node is there
 pub record IsLike (w v : World) (n : Name) : Type 0 where
   pub sites : v.sites ≡ w.sites
   pub servers : v.servers ≡ w.servers

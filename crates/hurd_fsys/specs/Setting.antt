@@ -128,15 +128,20 @@ GoesFor w (Some q) p = Goes w q p
 abbrev pub seat_parts : World → Setting → Name → Option Name → Part → Type 0
 seat_parts w f n old p = (p ≡ AttrOf n) ⊎ GoesFor w (leaver f old) p
 
-abbrev pub parts_where : Bool → World → Setting → Option Meaning → Named → Part → Type 0
-parts_where true w f box n = Nothing
-parts_where false w f box n = asked_parts (seat_asks w f n) (λ old. asked_parts (box_aims w n box) (λ targets. seat_parts w f n.right.node old))
+-- the same with a box or without; if a box comes for which the task has no names left, nothing
+abbrev pub box_parts : World → ℕ → Setting → Option Meaning → Name → Option Name → Part → Type 0
+box_parts w t f None n old = seat_parts w f n old
+box_parts w t f (Some m) n old = asked_parts (naming_asks w t 2) (λ x. seat_parts w f n old)
 
-abbrev pub setting_parts : World → Setting → Option Meaning → Named → Part → Type 0
-setting_parts w f box n = parts_where (sets_nothing f) w f box n
+abbrev pub parts_where : Bool → World → ℕ → Setting → Option Meaning → Named → Part → Type 0
+parts_where true w t f box n = Nothing
+parts_where false w t f box n = asked_parts (seat_asks w f n) (λ old. asked_parts (box_aims w n box) (λ targets. box_parts w t f box n.right.node old))
+
+abbrev pub setting_parts : World → ℕ → Setting → Option Meaning → Named → Part → Type 0
+setting_parts w t f box n = parts_where (sets_nothing f) w t f box n
 
 abbrev pub touches_set_translator : World → ℕ → ℕ → Setting → Option Meaning → Part → Type 0
-touches_set_translator w t p f box = asked_parts (setter_asks w t p f (is_some box)) (setting_parts w f box)
+touches_set_translator w t p f box = asked_parts (setter_asks w t p f (is_some box)) (setting_parts w t f box)
 
 -- file_get_translator: the words that are stored with a port's node: EBADF, EDIED, EINVAL
 abbrev pub stored_asks : World → ℕ → ℕ → Result (List (List ℕ)) Errno

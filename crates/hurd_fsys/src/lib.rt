@@ -1,4 +1,4 @@
-//! Calls on servers: sending one away, getting control of one, setting one behind a node, and starting one that waits there.
+//! Calls on servers: sending one away, getting control of one, setting one on a node, and starting one that waits there.
 //!
 //! What each answers and changes is its plan in `specs`.
 #![tactic(auto)]

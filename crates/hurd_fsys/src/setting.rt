@@ -50,7 +50,7 @@ fn leaver(setting: Setting, old: Option<ServerName>) -> Option<ServerName>
 /// root, or a node of a server that keeps no tree, `EBUSY` words that are there with passive `EXCL`, an old server with active `EXCL`, or with
 /// active `SET` one with users, without `ORPHAN` and `FORCE`; of each target of the box in order `ENXIO` a translator waits there, or those of its lookup, with the uid of the
 /// node's owner where the port's ids hold it or 0, else with no ids; `ENOTDIR` a union's target is no directory, `EOVERFLOW`, `ENOMEM`, which
-/// may come in place of what is asked of targets, or behind that. Without a box it takes no memory.
+/// may come in place of what is asked of targets, or after that. Without a box it takes no memory.
 #[tactic(auto, unfolding(hurd_machine::specs::Plan::answered))]
 pub fn file_set_translator<S: Server>(
     core: &mut Core<S>,

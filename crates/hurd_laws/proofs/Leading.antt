@@ -6,7 +6,7 @@ use Rattle.hurd_machine.specs.Plan.{first, given, on}
 use Rattle.hurd_machine.proofs.RenamedPlans.{answer_renamed}
 
 module _ {N M A B : Type 0} (h : A → B) (k : N → Result A Errno) (l : M → Result B Errno) where
-  -- what follows from two answers is the same but for names
+  -- what follows from two answers is the same except for names
   abbrev pub LeadsAlike : Result N Errno → Result M Errno → Type 0
   LeadsAlike s t = first t l ≡ answer_renamed h (first s k)
 

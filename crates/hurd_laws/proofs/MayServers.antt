@@ -13,9 +13,10 @@ use Rattle.hurd_machine.specs.declared.call.Setting.{Setting}
 use Rattle.hurd_machine.specs.Touched.{Goes}
 use Rattle.hurd_machine.proofs.Asks.{first_ok, given_ok, holds_right}
 use Rattle.hurd_core.specs.Control.{control_of}
+use Rattle.hurd_core.specs.Core.{naming_asks}
 use Rattle.hurd_fsys.specs.Controls.{control_asks}
 use Rattle.hurd_fsys.specs.Fsys.{goaway_asks, may_go, touches_goaway, touches_set_options}
-use Rattle.hurd_fsys.specs.Setting.{GoesFor, box_aims, parts_where, seat_asks, seat_parts, setter_asks, sets_nothing, touches_set_translator}
+use Rattle.hurd_fsys.specs.Setting.{GoesFor, box_aims, box_parts, parts_where, seat_asks, seat_parts, setter_asks, sets_nothing, touches_set_translator}
 use Rattle.hurd_fsys.specs.Starting.{pending_asks, startup_asks, touches_startup}
 use Rattle.hurd_fsys.proofs.ControlLaws.{control_is, is_controlled}
 use Rattle.hurd_fsys.proofs.OwnedLaws.{Owner, owner_right}
@@ -102,10 +103,14 @@ set_translator_may t p f box S w s ours q = parts_may (setter_asks w t p f (is_s
     let k = setter t p f w (is_some box) n is in
     by (sets_nothing f) n (owner_owns t ours p n k) on)
   where
-    by : (b : Bool) (n : Named) → Owns S w n.right.node → parts_where b w f box n q → MayChange S w q
+    of_box : (o : Option Meaning) (n : Named) → Owns S w n.right.node → (old : Option Name) → active_at w n.right.node ≡ old → box_parts w t f o n.right.node old q → MayChange S w q
+    of_box None n owns old at on = seat_may S w f n.right.node owns old at q on
+    of_box (Some m) n owns old at on = parts_may (naming_asks w t 2) _ q (λ x is on. seat_may S w f n.right.node owns old at q on) on
+
+    by : (b : Bool) (n : Named) → Owns S w n.right.node → parts_where b w t f box n q → MayChange S w q
     by true n owns on = absurd on
     by false n owns on = parts_may (seat_asks w f n) _ q (λ old is. parts_may (box_aims w n box) _ q (λ targets aims on.
-        seat_may S w f n.right.node owns old (seat_active w f n old is) q on)) on
+        of_box box n owns old (seat_active w f n old is) on)) on
 
 -- fsys_startup
 

@@ -1,4 +1,4 @@
--- A call of a set of tasks, in two worlds that look the same to it but for names of what others made.
+-- A call of a set of tasks, in two worlds that look the same to it except for names of what others made.
 use Rattle.std.proofs.Common.{◌∙◌, ℕ, sym, subst}
 use Rattle.hurd_machine.specs.Calls.{Call}
 use Rattle.hurd_machine.specs.Renamed.{OtherNames, renamed}

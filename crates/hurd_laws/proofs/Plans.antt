@@ -8,7 +8,7 @@ use Rattle.hurd_machine.proofs.RenamedPlans.{answer_renamed}
 use Rattle.hurd_laws.proofs.Changes.{Alike, none}
 
 module _ (f : OtherNames) where
-  -- two plans change the same but for names
+  -- two plans change the same except for names
   abbrev pub Changing : Plan → Plan → Type 0
   Changing P Q = Alike f P.changes Q.changes
 

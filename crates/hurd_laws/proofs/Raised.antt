@@ -1,4 +1,4 @@
--- A world where others have made more, which is gone, looks the same but for names.
+-- A world where others have made more, which is gone, looks the same except for names.
 use Rattle.std.proofs.Common.{◌≡◌, ◌<◌, ◌≤◌, ◌+◌, ℕ, Bool, Some, refl, sym, subst, arith}
 use Rattle.hurd_machine.proofs.Common.{SameView, Task, World, task_at}
 use Rattle.hurd_machine.specs.Sound.{AreGiven}

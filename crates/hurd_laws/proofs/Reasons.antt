@@ -91,7 +91,7 @@ pub record EntryKept (S : ℕ → Bool) (w : World) (d : Name) (name : List ℕ)
   pub stays : (n : Name) → entry_of name (body_at w d) ≡ Some n → (TakesEntry S w d name n → ⊥) → entry_of name (Some b) ≡ Some n → entry_of name (Some e) ≡ Some n
   pub free : entry_of name (body_at w d) ≡ None → (Enters S w d → ⊥) → entry_of name (Some b) ≡ None → entry_of name (Some e) ≡ None
 
--- an entry that was added comes behind all others
+-- an entry that was added comes after all others
 
 added_stays : (name new : List ℕ) (n m : Name) (es : List Entry) → entry_in name es ≡ Some n → entry_in name (es ++ record { name = new; node = m } ∷ []) ≡ Some n
 added_stays name new n m [] is = absurd (cc)

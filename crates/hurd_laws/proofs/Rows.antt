@@ -58,7 +58,7 @@ use Rattle.hurd_laws.proofs.SettingLeft.{set_translator-left, start_failed-left,
 abbrev pub IsTold : ℕ → (World → Plan) → Type 0
 IsTold t plan = (f : OtherNames) (w : World) → f.more t ≡ 0 → (plan (renamed f w)).reply ≡ (plan w).reply
 
--- what it leaves is the same but for those
+-- what it leaves is the same except for those
 abbrev pub IsLeft : ℕ → (World → Plan) → Type 0
 IsLeft t plan = (f : OtherNames) (w : World) → KeepsOwn f t → Changing f (plan w) (plan (renamed f w))
 

@@ -10,7 +10,7 @@ use Rattle.hurd_laws.proofs.Together.{together}
 use Rattle.hurd_laws.specs.Untold.{NamesUntold, SameViewRenamed, SideBySideRenamed, SameViewsRenamed}
 use Rattle.hurd_laws.proofs.SoundRenamed.{renamed_sound}
 
--- a call of S in two worlds that look the same to it but for names is told the same
+-- a call of S in two worlds that look the same to it except for names is told the same
 pub told_by_looks : NamesUntold → (S : ℕ → Bool) (v w : World) (t : ℕ) (c : Call) → Sound v → Sound w → S t ≡ true → SameViewRenamed S v w → reply_of v t c ≡ reply_of w t c
 told_by_looks untold S v w t c sv sw ours k =
     let none = k.ours t ours in

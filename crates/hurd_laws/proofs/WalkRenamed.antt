@@ -42,7 +42,7 @@ module _ (f : OtherNames) where
     abbrev alias : Authority
     alias = authority_renamed f.to q
 
-    -- the other outcome is the same but for names
+    -- the other outcome is the same except for names
     abbrev IsAlias : Result Outcome Errno → Result Outcome Errno → Type 0
     IsAlias outcome other = other ≡ answer_renamed (outcome_renamed f.to) outcome
 

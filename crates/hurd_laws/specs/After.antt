@@ -14,7 +14,7 @@ pub record KeepsOwn (f : OtherNames) (t : ℕ) : Type 0 where
   pub none : f.more t ≡ 0
   pub own : (n : Name) → n.task.0 ≡ t → f.to n ≡ n
 
--- where all other things have other names, and other tasks have made more, a call leaves the same but for those
+-- where all other things have other names, and other tasks have made more, a call leaves the same except for those
 abbrev pub AfterRenamed : Type 0
 AfterRenamed = (f : OtherNames) (w : World) (t : ℕ) (c : Call) → KeepsOwn f t → after (renamed f w) t c ≡ renamed f (after w t c)
 
@@ -25,7 +25,7 @@ pub record LooksLike (S : ℕ → Bool) (f : OtherNames) (v w : World) : Type 0 
   pub given : KeepsGiven f v
   pub same : SameView S (renamed f v) w
 
--- two worlds look the same to S but for names of what others made
+-- two worlds look the same to S except for names of what others made
 abbrev pub LookAlike : (ℕ → Bool) → World → World → Type 0
 LookAlike S v w = (f : OtherNames) × LooksLike S f v w
 

@@ -8,7 +8,7 @@ use Rattle.hurd_laws.specs.Served.{kept, told_to}
 use Rattle.hurd_laws.specs.Untold.{SameViewsRenamed}
 
 -- calls made from w: in a run of the written machine from any sound world, in which S makes the same calls, and each in a world that looks the same
--- to it as here but for names, whatever the others did before it, S is told the same
+-- to it as here except for names, whatever the others did before it, S is told the same
 abbrev pub ComparedByLooks : World → List TaskCall → List Reply → Type 0
 ComparedByLooks w ms rs =
     (S : ℕ → Bool) (v : World) (ns : List TaskCall) → Sound v

@@ -21,7 +21,7 @@ KeepsGiven f w = AreGiven (renamed f w)
 abbrev pub RenamedSound : Type 0
 RenamedSound = (f : OtherNames) (w : World) → KeepsGiven f w → Sound w → Sound (renamed f w)
 
--- two worlds look the same to S but for names: each gets other names of things, with which all that stands was made too, and of which S has made no more; then they
+-- two worlds look the same to S except for names: each gets other names of things, with which all that stands was made too, and of which S has made no more; then they
 -- have one view
 pub record SameViewRenamed (S : ℕ → Bool) (v w : World) : Type 0 where
   pub left : OtherNames
@@ -36,7 +36,7 @@ SameViewsRenamed S [] [] = Unit {0}
 SameViewsRenamed S (v ∷ vs) (w ∷ ws) = SameViewRenamed S v w × SameViewsRenamed S vs ws
 SameViewsRenamed S vs ws = ⊥
 
--- a set of tasks that makes the same calls in two runs, each in worlds that look the same to it but for names, is told the same
+-- a set of tasks that makes the same calls in two runs, each in worlds that look the same to it except for names, is told the same
 abbrev pub SideBySideRenamed : Type 0
 SideBySideRenamed =
     (S : ℕ → Bool) (v w : World) (ms ns : List TaskCall) → Sound v → Sound w
@@ -48,6 +48,6 @@ pub record RaisesCounts (f : OtherNames) : Type 0 where
   pub task : (n : Name) → (f.to n).task.0 ≡ n.task.0
   pub count : (n : Name) → (f.to n).count ≤ n.count + f.more n.task.0
 
--- a sound world, and the same with names raised where others have made more, look the same to S but for names
+-- a sound world, and the same with names raised where others have made more, look the same to S except for names
 abbrev pub RaisedLooksSame : Type 0
 RaisedLooksSame = (S : ℕ → Bool) (f : OtherNames) (w : World) → ((t : ℕ) → S t ≡ true → f.more t ≡ 0) → RaisesCounts f → Sound w → SameViewRenamed S w (renamed f w)

@@ -23,10 +23,11 @@ ghost use Rattle.hurd_laws.specs.Untold.{NamesUntold, RaisedLooksSame, RenamedSo
 /// Nodes, servers and opens have names inside the machine, which count what their maker made; six laws say that no call tells them.
 /// `names_untold`: no reply depends on how things are called inside, nor on how many things other tasks made.
 /// `renamed_sound`: a sound world is sound with other names too, if each name's count is below what its task has made.
-/// `side_by_side_renamed`: where a set of tasks makes the same calls in two runs, and each of them in worlds that look the same to it but for
-/// names, it is told the same. `raised_looks_same`: a world where others have made more, which is gone, looks the same but for names; so that law speaks of it.
-/// `after_renamed`: where all that others made has other names, and they have made more, a call leaves the same but for those names.
-/// `own_from_looks`: a call of a set of tasks, made in two worlds that look the same to it but for names of what others made, is told the same, and
+/// `side_by_side_renamed`: where a set of tasks makes the same calls in two runs, and each of them in worlds that look the same to it except for
+/// names, it is told the same. `raised_looks_same`: a world where others have made more, which is gone, looks the same except for names; so that law
+/// speaks of it.
+/// `after_renamed`: where all that others made has other names, and they have made more, a call leaves the same except for those names.
+/// `own_from_looks`: a call of a set of tasks, made in two worlds that look the same to it except for names of what others made, is told the same, and
 /// they look the same to it afterwards.
 pub fn laws()
     ensures changes_touched { ChangesTouched }

@@ -91,7 +91,7 @@ stat_fits s =
 
 -- parts
 
--- a part more, behind a comma where some stand already
+-- a part more, after a comma where some stand already
 part_added : (words part : List ℕ) → (words ≡ []) ⊎ IsClauseText words → fits part ≡ true → IsClauseText (parted words ++ part)
 part_added [] part said fit = clause_of_part part fit
 part_added (b ∷ words) part (inl none) fit = absurd (cc)

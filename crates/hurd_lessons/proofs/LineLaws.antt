@@ -88,7 +88,7 @@ pub gone_line : {E : Type 0} (who : List ℕ) (a b : View) (n : Name) (old new :
 gone_line who a b n old new (Ok u) none (t, grown, it) = (t, grown, inr (sym none, it))
 gone_line who a b n old new (Err e) none it = tt
 
--- all texts, one behind the other
+-- all texts, one after the other
 pub all_told : (who : List ℕ) (a b : View) (t0 t1 t2 t3 t4 : List ℕ) → t0 ≡ [] → AddsLines (LineOf who a b) (names_of b) t0 t1 → AddsLines (GoneLineOf who a b) (names_of a) t1 t2
     → Adds (Unless (a.seats.items ≡ b.seats.items) (tasks_line who)) t2 t3 → Adds (Unless (a.count ≡ b.count) (count_line who)) t3 t4 → Lessons who a b t4
 all_told who a b t0 t1 t2 t3 t4 none (s, is, p) (g, js, q) (t, ks, r) (c, ls, u) = record {

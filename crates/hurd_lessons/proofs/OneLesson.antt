@@ -85,7 +85,7 @@ taught_is_one tasks who w x s t (a, b, in_a, in_b, first) (c, d, in_c, in_d, sec
 pub seen_is_one : SeenIsOne
 seen_is_one tasks who w a b in_a in_b = ap (seen_text who) (same_seen a b (are_one tasks w a b in_a in_b))
 
--- and behind what was done
+-- and after what was done
 pub lesson_is_one : (tasks : List TaskId) (who : List ℕ) (quiet : Bool) (w x : World) (s t : List ℕ) → Lesson tasks who quiet w x s → Lesson tasks who quiet w x t → s ≡ t
 lesson_is_one tasks who true w x s t first second = first.none refl ∙ sym (second.none refl)
 lesson_is_one tasks who false w x s t first second = taught_is_one tasks who w x s t (first.some refl) (second.some refl)

@@ -89,7 +89,7 @@ abbrev pub entries_new : Bool → List EntryRow → List EntryRow → List Entry
 entries_new by_name [] new = new
 entries_new by_name (e ∷ old) new = entries_new by_name old (passed by_name e new)
 
--- names, each behind a sign
+-- names, each after a sign
 abbrev pub signed_names : List ℕ → List EntryRow → List ℕ
 signed_names sign [] = []
 signed_names sign (e ∷ es) = (sign ++ spelled_name e.name) ++ signed_names sign es
@@ -112,7 +112,7 @@ abbrev pub empty_change : Option (Option Bool) → List ℕ
 empty_change (Some (Some e)) = empty_text e
 empty_change _ = codes "emptiness"
 
--- modes, each behind a space, or that there are none
+-- modes, each after a space, or that there are none
 abbrev pub modes_or_none : List ℕ → List ℕ
 modes_or_none [] = codes " (none)"
 modes_or_none (b ∷ bs) = b ∷ bs

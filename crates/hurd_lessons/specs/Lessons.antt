@@ -84,7 +84,7 @@ said_of a b x y c =
     then (if shows x then [] else codes "new: ") ++ or_changed (parts_of a b x y c)
     else codes "no longer seen"
 
--- a place before, and the one behind it where that is another
+-- a place before, and the one after it where that is another
 abbrev pub moved : List ℕ → List ℕ → List ℕ
 moved old new = if bytes_eq old new then old else old ++ (codes " -> " ++ new)
 

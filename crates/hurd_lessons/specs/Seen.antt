@@ -82,7 +82,7 @@ abbrev pub parent_part : View → Option NodeRow → Option (List ℕ)
 parent_part v None = None
 parent_part v (Some r) = parent_of v r.attrs
 
--- the names of entries, each behind a space
+-- the names of entries, each after a space
 abbrev pub entry_names : List EntryRow → List ℕ
 entry_names [] = []
 entry_names (e ∷ es) = (32 ∷ spelled_name e.name) ++ entry_names es
@@ -153,7 +153,7 @@ abbrev pub empty_part : Option (Option BodyRow) → Option (Option Bool) → Opt
 empty_part None (Some (Some e)) = Some (empty_text e)
 empty_part _ _ = None
 
--- what an open allows, each mode behind a space
+-- what an open allows, each mode after a space
 abbrev pub modes_text : OpenFlags → List ℕ
 modes_text f =
     text_if (bit.asks f bit.READ) (codes " read") ++ (text_if (bit.asks f bit.WRITE) (codes " write")
@@ -200,7 +200,7 @@ cursor_text r = opened_text r.opened
 abbrev pub held_text : OpenRow → List ℕ
 held_text r = if r.holders == 1 then codes "held once" else codes "held" ++ (spaced r.holders ++ codes " times")
 
--- the places of nodes, each behind a space
+-- the places of nodes, each after a space
 abbrev pub node_places : View → List Name → List ℕ
 node_places v [] = []
 node_places v (n ∷ ns) = (32 ∷ node_path v n) ++ node_places v ns
@@ -224,12 +224,12 @@ uid_or_none (Some u) = decimal u
 abbrev pub uid_text : IdSets → List ℕ
 uid_text ids = uid_or_none (least_uid ids)
 
--- a mark and bytes behind a space, where there are any bytes
+-- a mark and bytes after a space, where there are any bytes
 abbrev pub marked_text : List ℕ → List ℕ → List ℕ
 marked_text mark [] = []
 marked_text mark (b ∷ bs) = 32 ∷ (mark ++ spelled (b ∷ bs))
 
--- the program of a server, and behind it what whoever knows it is told: a link's text, or the word that says a tree's limit
+-- the program of a server, and after it what whoever knows it is told: a link's text, or the word that says a tree's limit
 abbrev pub program_text : ServerRow → List ℕ
 program_text s = spelled_or_none s.program ++ marked_text (text_mark s.program) s.text
 
@@ -244,7 +244,7 @@ server_parts v words (Some (Some s)) =
     (Some (codes "root " ++ node_path v s.root)))
     (Some (codes "runs as " ++ uid_text s.ids))
 
--- the words behind the first
+-- the words after the first
 abbrev pub words_behind : List (List ℕ) → List (List ℕ)
 words_behind [] = []
 words_behind (word ∷ words) = words
@@ -299,7 +299,7 @@ seen_at who v (Some n) = seen_line who v n
 abbrev pub seen_lines : List ℕ → View → List Name → List ℕ
 seen_lines who v ns = concat (map (seen_line who v) ns)
 
--- the numbers of ports, each behind a space
+-- the numbers of ports, each after a space
 abbrev pub port_numbers : List Port → List ℕ
 port_numbers [] = []
 port_numbers (p ∷ ps) = spaced p.number ++ port_numbers ps

@@ -1,4 +1,4 @@
--- What is said behind what each of several tasks does, and how that is printed.
+-- What is said after what each of several tasks does, and how that is printed.
 use Rattle.std.specs.Prelude.{◌≡◌, ◌↔◌, ◌+◌, ◌==◌, ℕ, Bool, true, false, List, [], ◌∷◌, ◌++◌, if◌then◌else◌, length, nat_lt, codes, decimal}
 use Rattle.hurd_creds.specs.declared.name.TaskId.{TaskId}
 use Rattle.hurd_machine.specs.Sight.{SameView}
@@ -23,7 +23,7 @@ Taught tasks who w x text = (a b : View) × Views tasks w a × Views tasks x b �
 abbrev pub ToldApart : List TaskId → List ℕ → World → World → List ℕ → Type 0
 ToldApart tasks who w x text = (a b : View) × Views tasks w a × Views tasks x b × Beside who a b text
 
--- what is said behind what was done: nothing, where one of these tasks did it or nothing is to be said yet; else what they learn by it
+-- what is said after what was done: nothing, where one of these tasks did it or nothing is to be said yet; else what they learn by it
 pub record Lesson (tasks : List TaskId) (who : List ℕ) (quiet : Bool) (w x : World) (text : List ℕ) : Type 0 where
   pub none : quiet ≡ true → text ≡ []
   pub some : quiet ≡ false → Taught tasks who w x text
@@ -44,7 +44,7 @@ ToldApartIsOne = (tasks : List TaskId) (who : List ℕ) (w x : World) (s t : Lis
 abbrev pub SeenIsOne : Type 0
 SeenIsOne = (tasks : List TaskId) (who : List ℕ) (w : World) (a b : View) → Views tasks w a → Views tasks w b → seen_text who a ≡ seen_text who b
 
--- whether a thing that was done is counted, what is said behind it, and what is shown behind that
+-- whether a thing that was done is counted, what is said after it, and what is shown after that
 pub record Said : Type 0 where
   pub counts : Bool
   pub text : List ℕ
@@ -68,7 +68,7 @@ abbrev pub tally_from : Tally → List Said → Tally
 tally_from t [] = t
 tally_from t (said ∷ more) = tally_from (if said.counts then counted t said.text else t) more
 
--- what stands behind the number of things that others did
+-- what comes after the number of things that others did
 abbrev pub of_others : ℕ → List ℕ
 of_others n = if n == 1 then codes " by others\n" else codes "s by others\n"
 

@@ -12,7 +12,7 @@ abbrev pub parted : List ℕ → List ℕ
 parted [] = []
 parted (b ∷ bs) = (b ∷ bs) ++ codes ", "
 
--- one part more, if there is one, behind a comma where some stand already
+-- one part more, if there is one, after a comma where some stand already
 abbrev pub with_part : List ℕ → Option (List ℕ) → List ℕ
 with_part words None = words
 with_part words (Some part) = parted words ++ part

@@ -160,7 +160,7 @@ fn same_entry(by_name: bool, one: &EntryRow, other: &EntryRow) -> bool
     (by_name || one.node == other.node) && one.name.as_slice() == other.name.as_slice()
 }
 
-/// Adds a name behind a sign.
+/// Adds a name after a sign.
 fn push_signed(words: &mut Vec<u8>, sign: &[u8], entry: &EntryRow) -> Result<(), AllocError>
     ensures { OnOk result (words.new.items ≡ words.old.items ++ (sign.now ++ spelled_name entry.now.name)) }
 {
@@ -168,7 +168,7 @@ fn push_signed(words: &mut Vec<u8>, sign: &[u8], entry: &EntryRow) -> Result<(),
     push_spelled_name(words, entry.name.as_slice())
 }
 
-/// Adds names, each behind a sign.
+/// Adds names, each after a sign.
 fn push_all_signed(words: &mut Vec<u8>, sign: &[u8], entries: &[EntryRow]) -> Result<(), AllocError>
     ensures { OnOk result (words.new.items ≡ words.old.items ++ signed_names sign.now entries.now) }
 {
@@ -303,7 +303,7 @@ fn add_empty(words: &mut Vec<u8>, new: Option<Option<bool>>) -> Result<(), Alloc
     }
 }
 
-/// Adds modes, each behind a space, or that there are none.
+/// Adds modes, each after a space, or that there are none.
 fn push_modes(words: &mut Vec<u8>, modes: &[u8]) -> Result<(), AllocError>
     ensures { OnOk result (words.new.items ≡ words.old.items ++ modes_or_none modes.now) }
 {

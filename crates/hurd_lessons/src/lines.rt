@@ -23,7 +23,7 @@ pub(crate) fn row_at<'a>(view: &'a View, name: Name, nothing: &'a Row) -> &'a Ro
     }
 }
 
-/// A place before, and the one behind it where that is another.
+/// A place before, and the one after it where that is another.
 pub(crate) fn moved(mut old: Vec<u8>, new: &[u8]) -> Result<Vec<u8>, AllocError>
     ensures { IfOk result (λ place. place.items ≡ moved old.items new.now) }
 {

@@ -83,7 +83,7 @@ fn add_count(text: &mut Vec<u8>, who: &[u8], count: usize) -> Result<(), AllocEr
 }
 
 /// All that is seen in a view, a line for each thing, in its order: what has a name, then the tasks themselves, then how many there are. The lines begin
-/// with two spaces and these words, as `alice sees`, and say where the thing is, and what is seen of it. An error is want of memory.
+/// with two spaces and these words, as `alice sees`, and say where the thing is, and what is seen of it. Fails only if memory runs out.
 pub fn seen(alloc: Global, who: &[u8], view: &View) -> Result<Bytes, AllocError>
     ensures { IfOk result (λ text. text ≡ seen_text who.now view.now) }
 {

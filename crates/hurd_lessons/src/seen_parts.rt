@@ -159,7 +159,7 @@ fn add_parent(
     words.extend_from_slice(path.as_slice())
 }
 
-/// Adds the names of entries, each behind a space.
+/// Adds the names of entries, each after a space.
 fn push_entries(words: &mut Vec<u8>, entries: &[EntryRow]) -> Result<(), AllocError>
     ensures { OnOk result (words.new.items ≡ words.old.items ++ entry_names entries.now) }
 {
@@ -204,7 +204,7 @@ fn push_body(words: &mut Vec<u8>, body: &BodyRow) -> Result<(), AllocError>
     }
 }
 
-/// An open's modes, each behind a space.
+/// An open's modes, each after a space.
 pub(crate) fn modes_of(alloc: Global, modes: OpenFlags) -> Result<Vec<u8>, AllocError>
     ensures { IfOk result (λ text. text.items ≡ modes_text modes) }
 {
@@ -213,7 +213,7 @@ pub(crate) fn modes_of(alloc: Global, modes: OpenFlags) -> Result<Vec<u8>, Alloc
     Ok(text)
 }
 
-/// Adds an open's modes, each behind a space.
+/// Adds an open's modes, each after a space.
 fn push_modes(words: &mut Vec<u8>, modes: OpenFlags) -> Result<(), AllocError>
     ensures { OnOk result (words.new.items ≡ words.old.items ++ modes_text modes) }
 {
@@ -250,7 +250,7 @@ fn push_held(words: &mut Vec<u8>, row: &OpenRow) -> Result<(), AllocError>
     Ok(())
 }
 
-/// Adds the place of a node, behind a space.
+/// Adds the place of a node, after a space.
 fn push_place(
     alloc: Global,
     words: &mut Vec<u8>,
@@ -265,7 +265,7 @@ fn push_place(
     Ok(())
 }
 
-/// Adds the places of these nodes, each behind a space.
+/// Adds the places of these nodes, each after a space.
 fn push_places(
     alloc: Global,
     words: &mut Vec<u8>,
@@ -306,7 +306,7 @@ pub(crate) fn uid_of(alloc: Global, ids: &Ids) -> Result<Vec<u8>, AllocError>
     }
 }
 
-/// Adds a mark and bytes behind a space, where there are any bytes.
+/// Adds a mark and bytes after a space, where there are any bytes.
 fn push_marked_text(words: &mut Vec<u8>, mark: &[u8], text: &[u8]) -> Result<(), AllocError>
     ensures { OnOk result (words.new.items ≡ words.old.items ++ marked_text mark.now text.now) }
 {
@@ -318,7 +318,7 @@ fn push_marked_text(words: &mut Vec<u8>, mark: &[u8], text: &[u8]) -> Result<(),
     push_spelled(words, text)
 }
 
-/// The program of a server, and behind it a link's text, or the word that says a tree's limit.
+/// The program of a server, and after it a link's text, or the word that says a tree's limit.
 pub(crate) fn program_text(alloc: Global, server: &ServerRow) -> Result<Vec<u8>, AllocError>
     ensures { IfOk result (λ text. text.items ≡ program_text server.now) }
 {
@@ -338,7 +338,7 @@ fn add_program(alloc: Global, words: &mut Vec<u8>, server: &ServerRow) -> Result
     words.extend_from_slice(text.as_slice())
 }
 
-/// The words behind the first.
+/// The words after the first.
 pub(crate) fn words_behind(words: &[Bytes]) -> &[Bytes]
     ensures { result.now ≡ words_behind words.entry.now }
 {

@@ -26,7 +26,7 @@ fn add_ids(alloc: Global, words: &mut Vec<u8>, ids: &Ids) -> Result<(), AllocErr
     words.extend_from_slice(uid.as_slice())
 }
 
-/// Adds the numbers of ports, each behind a space.
+/// Adds the numbers of ports, each after a space.
 fn push_ports(words: &mut Vec<u8>, ports: &[Port]) -> Result<(), AllocError>
     ensures { OnOk result (words.new.items ≡ words.old.items ++ port_numbers ports.now) }
 {

@@ -20,7 +20,7 @@ fn one_more(number: u64) -> u64
     number.saturating_add(1)
 }
 
-/// What stands behind the number of things that others did.
+/// What comes after the number of things that others did.
 fn of_others(number: u64) -> &'static [u8]
     ensures { result.now ≡ of_others number }
 {
@@ -56,7 +56,7 @@ impl Tally {
         }
     }
 
-    /// The last line: these learned from so many of so many things, as ` command`. An error is want of memory.
+    /// The last line: these learned from so many of so many things, as ` command`. Fails only if memory runs out.
     pub fn line(self, alloc: Global, names: &[u8], thing: &[u8]) -> Result<Vec<u8>, AllocError>
         ensures { IfOk result (λ line. line.items ≡ last_line names.now thing.now self) }
     {

@@ -59,7 +59,7 @@ module _ (rows : List Row) (bits : ℕ) where
     pub flags_ended : length items ≤ i → with_names rows bits (drop i (said items)) ≡ Some bits
     flags_ended h = last_piece (with_names rows bits) items i h ∙ no_names
 
--- the words from a place on, behind the texts of those before it
+-- the words from a place on, after the texts of those before it
 abbrev pub texts_from : List (Bor (List ℕ)) → List (List ℕ) → Option (List (List ℕ))
 texts_from texts words = behind (said texts) (texts_of words)
 
@@ -80,7 +80,7 @@ module _ (texts : List (Bor (List ℕ))) (words : List (List ℕ)) (i : ℕ) whe
         at_drop_more (texts_from texts) words i d h ∙ (more_texts texts (get_or words i d) (drop (i + 1) words)
         ∙ ap (λ (p : Option (List ℕ)). behind (said texts) (option_and_then (λ text. option_map (λ rest. text ∷ rest) (texts_of (drop (i + 1) words))) p)) e)
 
-    -- the next word has bytes behind `=`
+    -- the next word has bytes after `=`
     pub text_taken : (new : List (Bor (List ℕ))) (text : Bor (List ℕ)) → bytes_of (get_or words i d) ≡ Some text.now → new ≡ texts ++ text ∷ []
         → texts_from new (drop (i + 1) words) ≡ texts_from texts (drop i words)
     text_taken new text e is =

@@ -46,7 +46,7 @@ above_zero n = if nat_lt n (2 ^ 63) then Some (pos n) else None
 abbrev pub below_zero : ℕ → Option ℤ
 below_zero n = if nat_le n (2 ^ 63) then Some (pos 0 -ℤ pos n) else None
 
--- decimal digits, behind `-` where the number is below zero
+-- decimal digits, after `-` where the number is below zero
 abbrev pub offset_of : List ℕ → Option ℤ
 offset_of [] = option_and_then above_zero (long_number_of [])
 offset_of (b ∷ bs) =
@@ -65,7 +65,7 @@ mode_from bits = record { 0 = bits }
 abbrev pub mode_of : List ℕ → Option Mode
 mode_of word = option_map mode_from (option_and_then script.octal_number_of (text_of word))
 
--- any bytes behind `=`
+-- any bytes after `=`
 abbrev pub bytes_of : List ℕ → Option (List ℕ)
 bytes_of [] = None
 bytes_of (b ∷ bs) = if b == 61 then Some bs else None
@@ -123,7 +123,7 @@ trans_flags_of word = option_map (λ bits. record { 0 = bits }) (bits_of trans_n
 abbrev pub goaway_flags_of : List ℕ → Option GoawayFlags
 goaway_flags_of word = option_map (λ bits. record { 0 = bits }) (bits_of goaway_names word)
 
--- the bytes of words, each behind `=`
+-- the bytes of words, each after `=`
 unfoldable pub texts_of : List (List ℕ) → Option (List (List ℕ))
 texts_of [] = Some []
 texts_of (word ∷ words) = option_and_then (λ text. option_map (λ texts. text ∷ texts) (texts_of words)) (bytes_of word)
@@ -132,6 +132,6 @@ texts_of (word ∷ words) = option_and_then (λ text. option_map (λ texts. text
 abbrev pub within_limits : List (List ℕ) → Option (List (List ℕ))
 within_limits words = if is_within_limits words then Some words else None
 
--- the words of a server, each behind `=`
+-- the words of a server, each after `=`
 abbrev pub server_words : List (List ℕ) → Option (List (List ℕ))
 server_words words = option_and_then within_limits (texts_of words)

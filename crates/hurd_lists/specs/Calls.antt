@@ -193,7 +193,7 @@ words_until words (Some place) = take place words
 abbrev pub before_box : List (List ℕ) → List (List ℕ)
 before_box words = words_until words (box_place words)
 
--- the words behind `box`, where it stands
+-- the words after `box`, where it stands
 abbrev pub behind_box : List (List ℕ) → Option (List (List ℕ))
 behind_box words = option_map (λ place. drop (place + 1) words) (box_place words)
 
@@ -205,7 +205,7 @@ setting_of passive active goaway = do
   goaway ← goaway_flags_of goaway
   Some (record { passive = passive; active = active; goaway = goaway })
 
--- `PORT PASSIVE ACTIVE GOAWAY [=WORD ..] [box =WORD ..]`, without the server of the words behind `box`
+-- `PORT PASSIVE ACTIVE GOAWAY [=WORD ..] [box =WORD ..]`, without the server of the words after `box`
 abbrev pub file_set_translator : List (List ℕ) → Option Call
 file_set_translator (port ∷ passive ∷ active ∷ goaway ∷ words) = do
   port ← long_number_of port
@@ -214,7 +214,7 @@ file_set_translator (port ∷ passive ∷ active ∷ goaway ∷ words) = do
   Some (call.FileSetTranslator port setting words None)
 file_set_translator _ = None
 
--- `box =WORD ..`, without the server of the words behind `box`: so far a start that failed
+-- `box =WORD ..`, without the server of the words after `box`: so far a start that failed
 abbrev pub fsys_startup : List (List ℕ) → Option Call
 fsys_startup [] = None
 fsys_startup (word ∷ words) = if bytes_eq word (codes "box") then Some (call.Plain plain.StartFailed) else None
@@ -288,7 +288,7 @@ call_of verb.DirRename args = dir_rename args
 abbrev pub begun : Option (List (List ℕ)) → Option Meaning
 begun words = option_and_then begin words
 
--- the server that words behind `box` make; they are bad where no kind takes them
+-- the server that words after `box` make; they are bad where no kind takes them
 abbrev pub brought : Option (List (List ℕ)) → Option (Option Meaning)
 brought None = Some None
 brought (Some words) = option_map Some (option_and_then begin (server_words words))

@@ -79,7 +79,7 @@ with_words s line words =
     if begins_with (codes "task") words then with_task s words
     else with_call s (call_from line words)
 
--- what stands after a line, or why it is bad: the first test that it fails
+-- what comes after a line, or why it is bad: the first test that it fails
 abbrev pub with_line : Standing → List ℕ → Result Standing ListFlaw
 with_line s line =
     if is_skipped line then Ok s
@@ -89,7 +89,7 @@ with_line s line =
 abbrev pub bad_at : ℕ → ListFlaw → BadLine
 bad_at number flaw = record { line = number; flaw = flaw }
 
--- what stands after more lines, of which the first has this number, or the first bad one
+-- what comes after more lines, of which the first has this number, or the first bad one
 unfoldable pub read_from : ℕ → Standing → List (List ℕ) → Result Standing BadLine
 read_from number s [] = Ok s
 read_from number s (line ∷ lines) = result_flatten (result_map_both (λ next. read_from (number + 1) next lines) (bad_at number) (with_line s line))

@@ -18,11 +18,11 @@ use Rattle.hurd_machine.specs.declared.call.RetryKind.TheVariants.{Normal, Reaut
 use Rattle.hurd_creds.specs.declared.attrs.Kind.{Kind}
 use Rattle.hurd_creds.specs.declared.attrs.Kind.TheVariants.{File, Dir, Link, Fifo, Char}
 
--- bytes behind `=`
+-- bytes after `=`
 abbrev pub shown : List ℕ → List ℕ
 shown bytes = 61 ∷ escaped bytes
 
--- names or words, each behind a space
+-- names or words, each after a space
 unfoldable pub shown_names : List (List ℕ) → List ℕ
 shown_names [] = []
 shown_names (name ∷ names) = 32 ∷ shown name ++ shown_names names
@@ -44,13 +44,13 @@ abbrev pub high_digits : ℕ → List ℕ
 high_digits n =
     high_digit (n / 1073741824) ++ (high_digit (n / 134217728) ++ (high_digit (n / 16777216) ++ (high_digit (n / 2097152) ++ high_digit (n / 262144))))
 
--- the name of a flag, if it is there, behind a comma where it is not the first
+-- the name of a flag, if it is there, after a comma where it is not the first
 abbrev pub flag_text : Bool → Bool → List ℕ → List ℕ
 flag_text first false name = []
 flag_text true true name = name
 flag_text false true name = 44 ∷ name
 
--- the rows of flags and their names, each behind a comma but for the first that is there, and `-` where none is
+-- the rows of flags and their names, each after a comma except for the first that is there, and `-` where none is
 abbrev pub listed_flags : Bool → OpenFlags → List (ℕ × List ℕ) → List ℕ
 listed_flags first f [] = if first then codes "-" else []
 listed_flags first f (row ∷ rows) = flag_text first (bit.asks f row.0) row.1 ++ listed_flags (first && not (bit.asks f row.0)) f rows
@@ -59,7 +59,7 @@ listed_flags first f (row ∷ rows) = flag_text first (bit.asks f row.0) row.1 +
 abbrev pub flags_text : OpenFlags → List ℕ
 flags_text f = listed_flags true f ((bit.READ, codes "READ") ∷ (bit.WRITE, codes "WRITE") ∷ (bit.EXEC, codes "EXEC") ∷ (bit.APPEND, codes "APPEND") ∷ (bit.CREATE, codes "CREATE") ∷ (bit.EXCL, codes "EXCL") ∷ (bit.NOTRANS, codes "NOTRANS") ∷ (bit.NOLINK, codes "NOLINK") ∷ (bit.DIRECTORY, codes "DIRECTORY") ∷ [])
 
--- a mode behind a space, as six octal digits, or more where it has them
+-- a mode after a space, as six octal digits, or more where it has them
 unfoldable pub mode_text : ℕ → List ℕ
 mode_text n = 32 ∷ high_digits n ++ six_octal_digits n
 
@@ -77,7 +77,7 @@ retry_name Normal = codes "NORMAL"
 retry_name Reauth = codes "REAUTH"
 retry_name Magical = codes "MAGICAL"
 
--- a port behind a space, where there is one
+-- a port after a space, where there is one
 abbrev pub port_text : Option ℕ → List ℕ
 port_text None = []
 port_text (Some port) = spaced port

@@ -108,7 +108,7 @@ pub fn mode(word: &[u8]) -> Result<Mode, ReadFault>
     Ok(<Mode as Flags>::from_bits_retain(bits))
 }
 
-/// What stands behind `=`.
+/// What comes after `=`.
 fn behind_equals(word: &[u8]) -> Result<&[u8], ReadFault>
     ensures { ReadsInPlace (λ b. b.now) (bytes_of word.now) result }
 {
@@ -118,7 +118,7 @@ fn behind_equals(word: &[u8]) -> Result<&[u8], ReadFault>
     }
 }
 
-/// A copy of the bytes behind `=`.
+/// A copy of the bytes after `=`.
 pub fn bytes(alloc: Global, word: &[u8]) -> Result<Bytes, ReadFault>
     ensures { Reads (λ b. b) (bytes_of word.now) result }
 {
@@ -211,7 +211,7 @@ pub fn goaway_flags(alloc: Global, word: &[u8]) -> Result<GoawayFlags, ReadFault
     flags(alloc, word)
 }
 
-/// The bytes of words, each behind `=`.
+/// The bytes of words, each after `=`.
 fn texts<'a>(alloc: Global, words: &'a [Bytes]) -> Result<Vec<&'a [u8]>, ReadFault>
     ensures { Reads (λ texts. said texts.items) (texts_of words.now) result }
 {
@@ -222,7 +222,7 @@ fn texts<'a>(alloc: Global, words: &'a [Bytes]) -> Result<Vec<&'a [u8]>, ReadFau
     Ok(texts)
 }
 
-/// The words of a server, each behind `=`.
+/// The words of a server, each after `=`.
 pub fn server_words(alloc: Global, words: &[Bytes]) -> Result<Words, ReadFault>
     ensures { Reads (λ w. w) (server_words words.now) result }
 {

@@ -315,7 +315,7 @@ fn before_box(words: &[Bytes]) -> &[Bytes]
     }
 }
 
-/// The words behind `box`, where it stands.
+/// The words after `box`, where it stands.
 fn behind_box(words: &[Bytes]) -> Option<&[Bytes]>
     ensures { option_map (λ ws. ws.now) result ≡ behind_box words.now }
 {
@@ -339,7 +339,7 @@ fn setting(
     })
 }
 
-/// `PORT PASSIVE ACTIVE GOAWAY [=WORD ..] [box =WORD ..]`, without the server of the words behind `box`.
+/// `PORT PASSIVE ACTIVE GOAWAY [=WORD ..] [box =WORD ..]`, without the server of the words after `box`.
 fn file_set_translator<S: Server>(alloc: Global, args: &[Bytes]) -> Result<Call<S>, ReadFault>
     ensures { Reads (λ c. call_by S.meaning c) (file_set_translator args.now) result }
 {
@@ -362,7 +362,7 @@ fn file_set_translator<S: Server>(alloc: Global, args: &[Bytes]) -> Result<Call<
     })
 }
 
-/// `box =WORD ..`, without the server of the words behind `box`: so far a start that failed.
+/// `box =WORD ..`, without the server of the words after `box`: so far a start that failed.
 fn fsys_startup<S: Server>(args: &[Bytes]) -> Result<Call<S>, ReadFault>
     ensures { Reads (λ c. call_by S.meaning c) (fsys_startup args.now) result }
 {

@@ -14,7 +14,7 @@ pub enum ListFlaw {
     Word,
     /// It is a task line of another form than `task UIDS GIDS`.
     TaskForm,
-    /// It is a task line behind a call.
+    /// It is a task line after a call.
     LateTask,
     /// There are 64 tasks already.
     TaskCount,
@@ -24,11 +24,11 @@ pub enum ListFlaw {
     CallForm,
     /// It begins with no task's number.
     TaskNumber,
-    /// What stands behind the number is no call.
+    /// What comes after the number is no call.
     OtherCall,
     /// The call takes no such arguments.
     Arguments,
-    /// The words behind `box` are those of no server.
+    /// The words after `box` are those of no server.
     Server,
 }
 

@@ -232,8 +232,8 @@ fn fault_at(fault: LineFault, line: u64) -> ListFault
 /// Reads a list of calls: the ids of its tasks, and the calls.
 ///
 /// Errors: `Bad` at line 0 for a list of more than 1,048,576 bytes; else `Bad` at its first bad line, one with a byte or a
-/// backslash that no word has, a task line of another form, behind a call or one too many, another line that is
-/// no call, or words behind `box` that no kind of server takes; with the first of these tests that it fails.
+/// backslash that no word has, a task line of another form, after a call or one too many, another line that is
+/// no call, or words after `box` that no kind of server takes; with the first of these tests that it fails.
 /// `Memory` where memory is refused.
 ///
 /// Limits: 64 tasks, and 32 different uids and gids each.

@@ -12,7 +12,7 @@ use hurd_words::escapes::push_escaped;
 use hurd_words::printing::{octal_digit, push_if, push_mode, push_number};
 use std::alloc::{AllocError, Global};
 
-/// Prints bytes behind `=`.
+/// Prints bytes after `=`.
 fn push_bytes(text: &mut Vec<u8>, bytes: &[u8]) -> Result<(), AllocError>
     ensures { OnOk result (text.new.items ≡ text.old.items ++ shown bytes.now) }
 {
@@ -20,7 +20,7 @@ fn push_bytes(text: &mut Vec<u8>, bytes: &[u8]) -> Result<(), AllocError>
     push_escaped(text, bytes)
 }
 
-/// Prints names or words, each behind a space.
+/// Prints names or words, each after a space.
 fn push_names(text: &mut Vec<u8>, names: &[Bytes]) -> Result<(), AllocError>
     ensures { OnOk result (text.new.items ≡ text.old.items ++ shown_names names.now) }
 {
@@ -30,7 +30,7 @@ fn push_names(text: &mut Vec<u8>, names: &[Bytes]) -> Result<(), AllocError>
     Ok(())
 }
 
-/// Prints bytes behind `=`, behind a space.
+/// Prints bytes after `=`, after a space.
 fn push_spaced(text: &mut Vec<u8>, bytes: &[u8]) -> Result<(), AllocError>
     ensures { OnOk result (text.new.items ≡ text.old.items ++ 32 ∷ shown bytes.now) }
 {
@@ -72,7 +72,7 @@ pub fn push_high_digits(text: &mut Vec<u8>, number: u32) -> Result<(), AllocErro
     push_high_digit(text, number / 0o1000000)
 }
 
-/// Prints a mode behind a space, as six octal digits, or more where it has them.
+/// Prints a mode after a space, as six octal digits, or more where it has them.
 #[tactic(auto, unfolding(crate::specs::Replies::mode_text))]
 fn push_whole_mode(text: &mut Vec<u8>, mode: Mode) -> Result<(), AllocError>
     ensures { OnOk result (text.new.items ≡ text.old.items ++ mode_text mode.0) }
@@ -105,7 +105,7 @@ fn push_stat(text: &mut Vec<u8>, stat: &Stat) -> Result<(), AllocError>
     push_rest(text, stat)
 }
 
-/// Prints a name behind a comma, and only the name where it is the first.
+/// Prints a name after a comma, and only the name where it is the first.
 fn push_name(text: &mut Vec<u8>, first: bool, name: &str) -> Result<(), AllocError>
     ensures { OnOk result (text.new.items ≡ text.old.items ++ (if first then name.now else 44 ∷ name.now)) }
 {
@@ -171,7 +171,7 @@ pub fn retry_name(kind: RetryKind) -> &'static str
     }
 }
 
-/// Prints a port behind a space, where there is one.
+/// Prints a port after a space, where there is one.
 fn push_port(text: &mut Vec<u8>, port: Option<u64>) -> Result<(), AllocError>
     ensures { OnOk result (text.new.items ≡ text.old.items ++ port_text port) }
 {

@@ -15,11 +15,11 @@ use std::alloc::Global;
 pub enum Escape {
     /// Outside of any.
     Plain,
-    /// Behind the backslash.
+    /// After the backslash.
     Begun,
-    /// Behind `\x`.
+    /// After `\x`.
     Hex,
-    /// Behind `\x` and this digit.
+    /// After `\x` and this digit.
     Half(u8),
 }
 
@@ -91,7 +91,7 @@ fn take_plain(bytes: &mut Vec<u8>, byte: u8) -> Result<Escape, ReadFault>
     Ok(Escape::Plain)
 }
 
-/// Takes the byte behind a backslash.
+/// Takes the byte after a backslash.
 fn take_code(bytes: &mut Vec<u8>, byte: u8) -> Result<Escape, ReadFault>
     ensures ok { IfOk result (λ next. TakesByte Escape.Begun byte next bytes.old.items bytes.new.items) }
     ensures err { IfErr result (λ e. (e ≡ ReadFault.Memory) ⊎ RefusesByte Escape.Begun byte) }
@@ -106,7 +106,7 @@ fn take_code(bytes: &mut Vec<u8>, byte: u8) -> Result<Escape, ReadFault>
     Ok(Escape::Plain)
 }
 
-/// Takes the second digit behind `\x`.
+/// Takes the second digit after `\x`.
 fn take_pair(bytes: &mut Vec<u8>, high: u8, low: u8) -> Result<Escape, ReadFault>
     ensures ok { IfOk result (λ next. TakesByte (Escape.Half high) low next bytes.old.items bytes.new.items) }
     ensures err { IfErr result (λ e. (e ≡ ReadFault.Memory) ⊎ RefusesByte (Escape.Half high) low) }

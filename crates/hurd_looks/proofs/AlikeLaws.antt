@@ -1,4 +1,4 @@
--- Views that are the same but for names are of worlds that look the same.
+-- Views that are the same except for names are of worlds that look the same.
 use Rattle.std.proofs.Common.{◌≡◌, ◌∙◌, ◌⊎◌, ℕ, Bool, true, false, true≢false, List, [], ◌∷◌, Option, Some, None, map, inl, inr, refl, sym, ap, ap₂, subst}
 use Rattle.std.specs.Prelude.{if◌then◌else◌, nat_eq}
 use Rattle.std.specs.Option.{option_map}

@@ -87,6 +87,6 @@ pub record IsAside (S : ℕ → Bool) (f : OtherNames) : Type 0 where
   pub raises : RaisesCounts f
   pub ours : (t : ℕ) → S t ≡ true → KeepsOwn f t
 
--- two views are the same but for names of what others made
+-- two views are the same except for names of what others made
 abbrev pub AreAlike : (ℕ → Bool) → View → View → Type 0
 AreAlike S a b = (f : OtherNames) × IsAside S f × IsRenamed f a b

@@ -1,4 +1,4 @@
-//! Whether two views are the same but for the internal names of what others made.
+//! Whether two views are the same except for the internal names of what others made.
 //!
 //! Names of nodes, servers and opens count what their maker made, unseen things too, and no call tells them. `look_alike` compares two views
 //! without them: it goes through both, and pairs the names that stand in the same places.

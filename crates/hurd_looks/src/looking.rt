@@ -14,7 +14,7 @@ use hurd_creds::TaskId;
 use hurd_views::{Row, Rows, View};
 use std::alloc::{AllocError, Global};
 
-/// Pairs the names in what is seen under two names; nothing is seen where there is no row. An error is want of memory.
+/// Pairs the names in what is seen under two names; nothing is seen where there is no row. Fails only if memory runs out.
 fn meet_seen(row: Option<&Row>, other: Option<&Row>, pairs: &mut Pairs) -> Result<bool, AllocError>
     ensures { IfOk result (λ met. PairUp row_renamed (or_no_row (option_copied row.entry)) (or_no_row (option_copied other.entry)) pairs.old met pairs.new) }
 {
@@ -22,7 +22,7 @@ fn meet_seen(row: Option<&Row>, other: Option<&Row>, pairs: &mut Pairs) -> Resul
     row.unwrap_or(&none).meet(other.unwrap_or(&none), pairs)
 }
 
-/// Pairs the names at an index of both, and those in what is seen under them. An error is want of memory.
+/// Pairs the names at an index of both, and those in what is seen under them. Fails only if memory runs out.
 fn meet_row(some: &Rows, others: &Rows, index: usize, pairs: &mut Pairs) -> Result<bool, AllocError>
     ensures { IfOk result (λ met. (x y : Name × Row) → slice_get (listed some.now) index ≡ Some x → slice_get (listed others.now) index ≡ Some y
         → PairUp named_row_renamed x y pairs.old met pairs.new) }
@@ -36,7 +36,7 @@ fn meet_row(some: &Rows, others: &Rows, index: usize, pairs: &mut Pairs) -> Resu
     meet_seen(some.get(name), others.get(other), pairs)
 }
 
-/// Pairs the names of two views' rows, in the order in which they were found; whether the rows are the same but for names. An error is want of memory.
+/// Pairs the names of two views' rows, in the order in which they were found; whether the rows are the same except for names. Fails only if memory runs out.
 fn meet_rows(some: &Rows, others: &Rows, pairs: &mut Pairs) -> Result<bool, AllocError>
     ensures { IfOk result (λ met. PairUp (λ f es. map (named_row_renamed f) es) (listed some.now) (listed others.now) pairs.old met pairs.new) }
 {
@@ -51,7 +51,7 @@ fn meet_rows(some: &Rows, others: &Rows, pairs: &mut Pairs) -> Result<bool, Allo
     Ok(true)
 }
 
-/// Whether the views of some tasks of two worlds are the same but for names of what others made. An error is want of memory.
+/// Whether the views of some tasks of two worlds are the same except for names of what others made. Fails only if memory runs out.
 pub fn look_alike(
     alloc: Global,
     one: &View,

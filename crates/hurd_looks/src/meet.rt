@@ -1,4 +1,4 @@
-//! Things of two views that are to be the same but for names.
+//! Things of two views that are to be the same except for names.
 ghost use Rattle.std.specs.Prelude.{IfOk, map};
 ghost use Rattle.std.specs.Option.{option_map};
 ghost use Rattle.hurd_looks.specs.Pairings.{PairUp};
@@ -14,7 +14,7 @@ pub(crate) trait Meet {
     // With other names.
     ghost renamed: { (Name → Name) → Self → Self };
 
-    /// Pairs the names of both in their order; whether these are then the same but for names. An error is want of memory.
+    /// Pairs the names of both in their order; whether these are then the same except for names. Fails only if memory runs out.
     fn meet(&self, other: &Self, pairs: &mut Pairs) -> Result<bool, AllocError>
         ensures { IfOk result (λ met. PairUp renamed self.now other.now pairs.old met pairs.new) };
 }
@@ -41,7 +41,7 @@ impl<T: Meet> Meet for Option<T> {
     }
 }
 
-/// Pairs the names of some things with those of as many others, in their order; whether all are the same but for names. An error is want of memory.
+/// Pairs the names of some things with those of as many others, in their order; whether all are the same except for names. Fails only if memory runs out.
 pub(crate) fn meet_all<T: Meet>(
     some: &[T],
     others: &[T],

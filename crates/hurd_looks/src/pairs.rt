@@ -34,7 +34,7 @@ impl Model for Pairs {
 }
 
 impl Pairs {
-    /// The boot root alone, which keeps its name. An error is want of memory.
+    /// The boot root alone, which keeps its name. Fails only if memory runs out.
     pub(crate) fn new(alloc: Global) -> Result<Pairs, AllocError>
         ensures { IfOk result (λ pairs. pairs ≡ (boot_name, boot_name) ∷ []) }
     {
@@ -47,7 +47,7 @@ impl Pairs {
         Ok(Pairs { pairs, taken })
     }
 
-    /// One pair more. An error is want of memory.
+    /// One pair more. Fails only if memory runs out.
     fn add(&mut self, name: Name, other: Name) -> Result<(), AllocError>
         requires new { lookup (same_name name) self.now ≡ None }
         requires free { is_in other (map (λ (e : Name × Name). e.1) self.now) ≡ false }
@@ -61,7 +61,7 @@ impl Pairs {
         Ok(())
     }
 
-    /// Pairs two names that stand in the same place; whether they can be. An error is want of memory.
+    /// Pairs two names that stand in the same place; whether they can be. Fails only if memory runs out.
     pub(crate) fn pair(&mut self, name: Name, other: Name) -> Result<bool, AllocError>
         ensures { IfOk result (λ met. PairUp (λ f n. f n) name other self.old met self.new) }
     {

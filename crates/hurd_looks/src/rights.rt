@@ -91,7 +91,7 @@ fn same_numbers(seat: &TaskSeat, other: &TaskSeat) -> bool
     seat.next == other.next && seat.made == other.made && seat.ids.is_same(&other.ids)
 }
 
-/// Pairs the names in the rights of two tasks; whether they are the same but for names. An error is want of memory.
+/// Pairs the names in the rights of two tasks; whether they are the same except for names. Fails only if memory runs out.
 fn meet_seats(seat: &TaskSeat, other: &TaskSeat, pairs: &mut Pairs) -> Result<bool, AllocError>
     ensures { IfOk result (λ met. PairUp (λ f x. task_renamed f 0 x) (seat_task seat.now) (seat_task other.now) pairs.old met pairs.new) }
 {

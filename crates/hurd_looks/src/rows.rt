@@ -10,7 +10,7 @@ use hurd_ports::Opened;
 use hurd_views::{BodyRow, EntryRow, NodeRow, OpenRow, Row, ServerRow, same_attributes};
 use std::alloc::AllocError;
 
-/// Whether attributes are the same but for the parent. Takes no memory.
+/// Whether attributes are the same except for the parent. Takes no memory.
 fn same_but_parent(attrs: &Attrs, other: &Attrs) -> bool
     ensures { IsTrue result ↔ (with_parent other.now.parent attrs.now ≡ other.now) }
 {
@@ -79,7 +79,7 @@ impl Meet for BodyRow {
     }
 }
 
-/// Whether two opens are the same but for the node. Takes no memory.
+/// Whether two opens are the same except for the node. Takes no memory.
 fn same_but_node(opened: &Opened, other: &Opened) -> bool
     ensures { IsTrue result ↔ ((opened.now.cursor ≡ other.now.cursor) × (opened.now.modes ≡ other.now.modes)) }
 {

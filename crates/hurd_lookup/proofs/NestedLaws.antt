@@ -100,7 +100,7 @@ module _ {v w : World} {At Near Entries : Name → Type 0} {P : IdSets → Type 
     pub first_alike : (n : Name) → At n → Alike At (first_unstarted v ids n) (first_unstarted w ids n)
     first_alike n at = among_alike most_asked n at
 
--- the paths at which a server aims are words behind its program's name
+-- the paths at which a server aims are words after its program's name
 
 none_or : (x y : Option Meaning) → aims_of x ≡ [] → aims_of y ≡ [] → aims_of (option_or x y) ≡ []
 none_or None y first others = others
@@ -196,7 +196,7 @@ pub aims_nothing : words_aims [] ≡ []
 unfolding words_aims
 aims_nothing = refl
 
--- of words that are none, or a program's name and the words behind it
+-- of words that are none, or a program's name and the words after it
 
 pub aims_none : (words : List (List ℕ)) → length words ≡ 0 → [] ≡ words_aims words
 aims_none [] none = sym aims_nothing

@@ -13,7 +13,7 @@ is_name part = not (is_nil part)
 abbrev parts : List ℕ → List (List ℕ)
 parts path = slice_split is_slash_byte path
 
--- behind the slashes that a path begins with its names are the same, it is no longer, and it is empty or begins with a byte of a name
+-- after the slashes that a path begins with its names are the same, it is no longer, and it is empty or begins with a byte of a name
 record Bare (path rest : List ℕ) : Type 0 where
   names : names_in rest ≡ names_in path
   short : length rest ≤ length path
@@ -27,7 +27,7 @@ bare (b ∷ bs) = go (is_slash_byte b) refl (bare bs)
     go true e ih = record { names = rw e ih.names; short = omega arith; begins = ih.begins }
     go false e ih = record { names = refl; short = omega arith; begins = inr (b, bs, refl, e) }
 
--- the first part, and the names behind it
+-- the first part, and the names after it
 record Cut (path : List ℕ) : Type 0 where
   behind : List (List ℕ)
   first : parts path ≡ take (position_or_len is_slash_byte path) path ∷ behind
@@ -62,7 +62,7 @@ position_none path = go (nat_lt (position_or_len is_slash_byte path) (length pat
         let low : position_or_len is_slash_byte path ≤ length path = prefix_len-le-length _ path in
         grind (arith, nat_tests)
 
--- a path that begins with a name: that name, and the names behind it
+-- a path that begins with a name: that name, and the names after it
 pub first_of : (y : ℕ) (ys : List ℕ) → is_slash_byte y ≡ false → let k = position_or_len is_slash_byte (y ∷ ys) in (names_in (y ∷ ys) ≡ take k (y ∷ ys) ∷ names_in (drop k (y ∷ ys))) × (length (drop k (y ∷ ys)) ≤ length ys)
 first_of y ys e =
     let k = position_or_len is_slash_byte ys in

@@ -1,4 +1,4 @@
--- How long what is left of a path is, and how it is put behind a text.
+-- How long what is left of a path is, and how it is put after a text.
 use Rattle.std.proofs.Common.{◌≡◌, ◌∙◌, ◌<◌, ◌≤◌, ℕ, suc, ◌+◌, ◌-◌, not, Bool, true, false, List, [], ◌∷◌, ◌++◌, length, nat_le, refl, sym, ap, arith}
 use Rattle.std.proofs.lemmas.Bool.Decides.{nat_tests}
 use Rattle.std.proofs.lemmas.List.{length-append, append_assoc, append-nil}
@@ -50,7 +50,7 @@ pub at-end : (path : List ℕ) (room : ℕ) → names_in path ≡ [] → nat_le 
 at-end path room is =
     ap (λ (ns : List (List ℕ)). nat_le (length (behind_slashes ns)) room) is ∙ ap (λ (bs : List ℕ). nat_le (length bs) room) behind-none ∙ grind (arith, nat_tests)
 
--- how long a rest behind a text is
+-- how long a rest after a text is
 
 module _ (bytes : List ℕ) where
   long : (names : List (List ℕ)) (ended : Bool) → All (λ (name : List ℕ). not (is_nil name) ≡ true) names → length (onto bytes (rest_of names ended)) ≡ length bytes + (length (behind_slashes names) + ending (is_last names) ended)
@@ -86,7 +86,7 @@ module _ (bytes path : List ℕ) (ended : Bool) (t : ℕ) (is : length bytes ≡
   pub fits-whole : t ≤ most_path - k → nat_le b (most_path - k - t) ≡ nat_le (length (onto bytes (rest_of (names_in path) ended))) most_path
   fits-whole h = whole-fits t b k (small (is_last (names_in path)) ended) h ∙ sym whole
 
--- names pushed behind a text
+-- names pushed after a text
 
 pub pushed : (text path name after : List ℕ) → names_in path ≡ name ∷ names_in after → text ++ slash ∷ [] ++ name ++ behind_slashes (names_in after) ≡ text ++ behind_slashes (names_in path)
 pushed text path name after is =

@@ -72,7 +72,7 @@ first_unstarted w ids n = first_among most_asked w ids n
 
 -- what the code finds
 
--- whether the words behind a program's name are paths at which its server aims
+-- whether the words after a program's name are paths at which its server aims
 unfoldable pub says_aims : List ℕ → List (List ℕ) → Bool
 says_aims program ws = if bytes_eq program (codes "/hurd/firmlink") then is_some (firm_text ws) else bytes_eq program (codes "/hurd/union") && is_some (union_text ws)
 

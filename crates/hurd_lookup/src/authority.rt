@@ -29,7 +29,7 @@ pub(crate) struct NewPort {
 }
 
 impl Authority<'_> {
-    /// The ways, behind the one by which a server was entered, if one was.
+    /// The ways, after the one by which a server was entered, if one was.
     pub(crate) fn ways_by(
         &self,
         alloc: Global,

@@ -15,7 +15,7 @@ use std::alloc::Global;
 /// So many nodes are asked at most: the one that the lookup comes to, and 8 that are needed one for the other.
 const MOST_ASKED: u64 = 9;
 
-/// Whether the words behind `/hurd/firmlink` make a firm link: one path from the root of the tree.
+/// Whether the words after `/hurd/firmlink` make a firm link: one path from the root of the tree.
 fn says_target(arguments: &[Bytes]) -> bool
     ensures { result ≡ is_some (firm_text arguments.now) }
 {
@@ -25,7 +25,7 @@ fn says_target(arguments: &[Bytes]) -> bool
     }
 }
 
-/// Whether these words make a server that aims at what the words behind its program's name say.
+/// Whether these words make a server that aims at what the words after its program's name say.
 #[tactic(auto, unfolding(crate::specs::Nested::says_aims))]
 fn says_aims(program: &Bytes, arguments: &[Bytes]) -> bool
     ensures { result ≡ says_aims program.now arguments.now }
@@ -117,7 +117,7 @@ fn needed<S: Server>(
 /// The node whose translator is to be started first by a task with these ids, that the one that waits on this node can be started: one at which the targets of its words end,
 /// where one does, else this node; and of that again the same. Nothing is opened, made or started.
 ///
-/// Errors: `ELOOP` a ninth is needed behind it; `ENOMEM`, not where its words have no targets.
+/// Errors: `ELOOP` a ninth is needed after it; `ENOMEM`, not where its words have no targets.
 pub fn first_unstarted<S: Server>(
     core: &Core<S>,
     alloc: Global,

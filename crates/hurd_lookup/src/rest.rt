@@ -17,7 +17,7 @@ pub(crate) fn is_last(path: &[u8]) -> bool
     from_name(path).is_empty()
 }
 
-/// Whether the names of a path, each behind a slash, have room in so many bytes.
+/// Whether the names of a path, each after a slash, have room in so many bytes.
 fn fit_behind(path: &[u8], most: u64) -> bool
     ensures { result ≡ nat_le (length (behind_slashes (names_in path.entry.now))) most }
 {
@@ -34,7 +34,7 @@ fn fit_behind(path: &[u8], most: u64) -> bool
     true
 }
 
-/// How many bytes are not of names, behind which a slash stands each, where what is left stands behind a text.
+/// How many bytes are not of names, after which a slash stands each, where what is left comes after a text.
 fn ending(is_last: bool, slash: bool) -> u64
     ensures { result ≡ ending is_last slash }
 {
@@ -45,7 +45,7 @@ fn ending(is_last: bool, slash: bool) -> u64
     }
 }
 
-/// Whether what is left, with a slash behind it where the path ended with one, has room behind a text.
+/// Whether what is left, with a slash after it where the path ended with one, has room after a text.
 pub(crate) fn fits(text: &[u8], rest: &[u8], slash: bool) -> bool
     ensures { result ≡ nat_le (length (onto text.now (rest_of (names_in rest.entry.now) slash))) most_path }
 {
@@ -54,7 +54,7 @@ pub(crate) fn fits(text: &[u8], rest: &[u8], slash: bool) -> bool
     length <= room && fit_behind(rest, room - length)
 }
 
-/// Puts the names of a path behind a text, each behind a slash.
+/// Puts the names of a path after a text, each after a slash.
 fn push_behind(text: &mut Vec<u8>, path: &[u8]) -> Result<(), AllocError>
     ensures { OnOk result (text.new.items ≡ text.old.items ++ behind_slashes (names_in path.entry.now)) }
 {
@@ -79,7 +79,7 @@ fn joined(alloc: Global, path: &[u8]) -> Result<Vec<u8>, AllocError>
     Ok(text)
 }
 
-/// What is left, with a slash behind it where the path ended with one.
+/// What is left, with a slash after it where the path ended with one.
 pub(crate) fn rest_of(alloc: Global, path: &[u8], slash: bool) -> Result<Vec<u8>, AllocError>
     ensures { IfOk result (λ text. text.items ≡ rest_of (names_in path.entry.now) slash) }
 {
@@ -90,7 +90,7 @@ pub(crate) fn rest_of(alloc: Global, path: &[u8], slash: bool) -> Result<Vec<u8>
     Ok(text)
 }
 
-/// A rest behind a text and a slash, unless there is none.
+/// A rest after a text and a slash, unless there is none.
 pub(crate) fn onto(text: Vec<u8>, rest: &[u8]) -> Result<Vec<u8>, AllocError>
     ensures { IfOk result (λ name. name.items ≡ onto text.items rest.now) }
 {

@@ -98,7 +98,7 @@ impl Onward {
 }
 
 impl Retry<'_> {
-    /// The name: behind the text of a link, where it goes along one.
+    /// The name: after the text of a link, where it goes along one.
     pub(crate) fn name<S: Server>(self, core: &Core<S>, alloc: Global) -> Result<Bytes, AllocError>
         ensures { IfOk result (λ name. name ≡ name_of (world_of S.meaning core.now) self.entry) }
     {

@@ -273,7 +273,7 @@ fn go_into<'a>(request: Request, branch: NodeName, path: &'a [u8]) -> Outcome<'a
     })
 }
 
-/// From a directory by the first name of a path, behind which its rest follows: on at the node that is `here` then, or to an end.
+/// From a directory by the first name of a path, after which its rest follows: on at the node that is `here` then, or to an end.
 ///
 /// Errors, in order: those of `step_asked`, those of `over`, of `go_back`, or of `miss`.
 #[tactic(auto, unfolding(hurd_machine::specs::Plan::first))]

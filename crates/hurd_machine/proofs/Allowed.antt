@@ -18,7 +18,7 @@ use Rattle.hurd_machine.proofs.Frame.{IsExact}
 use Rattle.hurd_machine.proofs.Confine.{NewTo, SeenOrNew, Known, Less, Less-refl, Less-trans, IoInside, RightInside, Commands, TakesLess, ServerInside, Inside}
 use Rattle.hurd_creds.proofs.Retained.{was_retained}
 
--- a right to use a node that a task of S may get, but for its ids: where its open is to read, S sees the body
+-- a right to use a node that a task of S may get, except for its ids: where its open is to read, S sees the body
 pub record IoMay (S : ℕ → Bool) (v x : World) (r : IoRight) : Type 0 where
   pub inside : IoInside S v r
   pub reads : (o : Opened) → open_at x r.open_name ≡ Some o → tells (counts_at v r.node) o.modes ≡ true → (h : Header) → header_at v r.node ≡ Some h → SeesBody S v r.node h

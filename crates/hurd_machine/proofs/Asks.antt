@@ -332,7 +332,7 @@ there_same (Some i) (Some x) (Some y) h = refl
 there_same (Some i) o p h = absurd (cc)
 
 module _ {S : ℕ → Bool} {v w : World} (a : Agree S v w) (n : Name) where
-  -- of a node that S sees it knows its server, but for a text that its readers alone are given
+  -- of a node that S sees it knows its server, except for a text that its readers alone are given
   pub info_seen : Seen S v n → face_in (info_at w n) ≡ face_in (info_at v n)
   info_seen seen = ap (λ o. face_in (info_in w.servers o)) (home_same a n seen) ∙ go (home_at v n) refl
     where

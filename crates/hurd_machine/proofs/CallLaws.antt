@@ -9,7 +9,7 @@ use Rattle.hurd_machine.proofs.Frame.{IsUnnamed, Full, untouched, unseen_from}
 use Rattle.hurd_machine.proofs.Settle.{AsBefore}
 use Rattle.hurd_machine.proofs.Views.{Agree, Agree-refl, view_of, agree_of}
 use Rattle.hurd_machine.proofs.Asks.{IsPlainReply, answered_all, IsPlain, answered_plain, answered_same, done_plain}
-use Rattle.hurd_machine.proofs.Confine.{SeenOrNew, seen_old}
+use Rattle.hurd_machine.proofs.Confine.{Known, SeenOrNew, seen_old}
 use Rattle.hurd_machine.proofs.Confined.{Grown, grown}
 use Rattle.hurd_machine.proofs.Confined as changes
 use Rattle.hurd_machine.proofs.Several.{agree_after}
@@ -113,9 +113,13 @@ module _ (t : ℕ) (plan : World → Plan) (touches : World → Part → Type 0)
       let left = left_stands (stands s) q.piece in
       record { coherent = left.coherent; linked = left.linked; filled = left.filled; settled = q.rests }
 
-  -- where S has its task, S sees afterwards what it saw, and what its task made
+  -- if S has its task, S sees a part afterwards only if it saw it before, or if it is of something that its task made
+  pub sees_closed : (S : ℕ → Bool) (w : World) → Sound w → S t ≡ true → (p : Part) → Sees S (after w) p → Known S w p
+  sees_closed S w s ours p sees = changes.confined S w (plan w).changes s.coherent (l.piece w s).piece.proper ((l.piece w s).piece.may S ours) p sees
+
+  -- so it does with nodes
   pub confined : (S : ℕ → Bool) (w : World) → Sound w → S t ≡ true → (n : Name) → Seen S (after w) n → SeenOrNew S w n
-  confined S w s ours n seen = changes.confined S w (plan w).changes s.coherent (l.piece w s).piece.proper ((l.piece w s).piece.may S ours) n seen
+  confined S w s ours n seen = sees_closed S w s ours (AttrOf n) seen
 
   -- no task has named less
   pub names_grow : (w : World) → Sound w → (q : ℕ) (y : Task) → task_at (after w) q ≡ Some y → Grown w q y

@@ -78,7 +78,7 @@ Less-trans n h k l a b = record {
 abbrev pub HeaderInside : (ℕ → Bool) → World → Name → Header → Type 0
 HeaderInside S v n h = ((before : Header) × (header_at v n ≡ Some before) × Less S v n h before) ⊎ (NewTo S v n × ((p : Name) → h.parent ≡ Some p → SeenOrNew S v p))
 
--- a right to use a node that S may hold, but for its ids: it names nodes that S saw or made, and an open that it had or made
+-- a right to use a node that S may hold, except for its ids: it names nodes that S saw or made, and an open that it had or made
 pub record IoInside (S : ℕ → Bool) (v : World) (r : IoRight) : Type 0 where
   pub nodes : (n : Name) → IsAmong n (nodes_named (Io r)) → SeenOrNew S v n
   pub opened : Known S v (OpenOf r.open_name)
@@ -87,7 +87,7 @@ pub record IoInside (S : ℕ → Bool) (v : World) (r : IoRight) : Type 0 where
 abbrev pub Commands : (ℕ → Bool) → World → Name → Type 0
 Commands S v s = Holds S v (Control s) ⊎ ((i : ServerInfo) × (server_at v s ≡ Some i) × Sends S v s i)
 
--- a right that S may hold, but for its ids
+-- a right that S may hold, except for its ids
 abbrev pub RightInside : (ℕ → Bool) → World → Right → Type 0
 RightInside S v (Io r) = IoInside S v r
 RightInside S v (Control s) = Commands S v s ⊎ NewTo S v s
@@ -118,7 +118,7 @@ pub record TakesLess (S : ℕ → Bool) (v x : World) : Type 0 where
   pub tasks : (q : ℕ) (y : Task) → S q ≡ true → task_at x q ≡ Some y → Taken S v y.ids
   pub rights : (r : IoRight) → Holds S x (Io r) → Taken S v r.ids
 
--- a server that was, but for its text, which is another only where S commands it. Or it is a new one of S, with its root, and aims at nothing beyond what S saw or made
+-- a server that was, except for its text, which is another only where S commands it. Or it is a new one of S, with its root, and aims at nothing beyond what S saw or made
 abbrev pub ServerInside : (ℕ → Bool) → World → Name → ServerInfo → Type 0
 ServerInside S v s i = ((text : List ℕ) × (server_at v s ≡ Some (with_text text i)) × ((text ≡ i.text) ⊎ Commands S v s)) ⊎ (NewTo S v s × NewTo S v i.root × ((n : Name) → IsAmong n i.targets → SeenOrNew S v n))
 

@@ -52,7 +52,7 @@ face_reads read blind o p e = sym (by_face p) ∙ ap read e ∙ by_face o
     by_face : (q : Option ServerInfo) → read (face_in q) ≡ read q
     by_face = by_option (λ q. read (face_in q)) read refl blind
 
--- what is seen as a server is it, but for its text
+-- what is seen as a server is it, except for its text
 pub of_face : (i : ServerInfo) (o : Option ServerInfo) → face_in o ≡ Some (faced i) → (text : List ℕ) × (o ≡ Some (with_text text i))
 of_face i None e = absurd (cc)
 of_face i (Some j) e = let face : faced j ≡ faced i = cc in (j.text, ap (λ (z : ServerInfo). Some (with_text j.text z)) face)

@@ -22,7 +22,7 @@ use Rattle.hurd_machine.proofs.Ends.{counts_text, ends_by, ends_edited, ends_let
 use Rattle.hurd_machine.proofs.Totals.{total_other, total_still, total_made, total_unmade, total_part, own_total}
 use Rattle.std.proofs.lemmas.Bool.{cases_Bool}
 
--- of a task z in place of x, as many rights name each open, and are on each server's nodes, but for those of T
+-- of a task z in place of x, as many rights name each open, and are on each server's nodes, except for those of T
 pub record Moved (T : Part → Type 0) (w : World) (x z : Task) : Type 0 where
   pub opens : (o : Name) → (T (OpenOf o) → ⊥) → count_list (names_open o) (rights_of z) ≡ count_list (names_open o) (rights_of x)
   pub users : (s : Name) → (T (UsersOf s) → ⊥) → count_list (is_on w s) (rights_of z) ≡ count_list (is_on w s) (rights_of x)

@@ -1,4 +1,4 @@
--- What a file counts for where it gets a link, or loses one: it is the same but for the first, and the last.
+-- What a file counts for where it gets a link, or loses one: it is the same except for the first, and the last.
 use Rattle.std.proofs.Common.{if◌then◌else◌, ◌≡◌, ◌≢◌, ◌⊎◌, ◌-◌, ◌+◌, ℕ, Bool, true, false, nat_lt, Option, Some, None, refl, sym, ap, ◌∙◌, subst, inl, inr, arith}
 use Rattle.std.proofs.lemmas.Bool.Decides.{nat_tests}
 use Rattle.hurd_machine.proofs.Common.{Header, Name, Part, TotalOf, World, counts_for, header_at, home_at, info_at, is_dir, tree_by, unlinked}

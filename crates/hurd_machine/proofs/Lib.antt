@@ -31,6 +31,7 @@ pub mod Allowed
 pub mod Mirror
 pub mod Several
 pub mod Confined
+pub mod Larger
 pub mod Permits
 pub mod Piece
 pub mod CallLaws

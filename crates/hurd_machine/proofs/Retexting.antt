@@ -152,7 +152,7 @@ module _ (w : World) (s : Name) (i : ServerInfo) where
     abbrev set : World
     set = record w { servers = edit s (with_text text) w.servers }
 
-    -- the server is as before, but for its text
+    -- the server is as before, except for its text
     info_set : (n : Name) → server_at w s ≡ Some i → home_at w n ≡ Some s → info_at set n ≡ Some (with_text text i)
     info_set n is home = ap (info_in set.servers) home ∙ edit_here w.servers s (with_text text) ∙ ap (option_map (with_text text)) is
 

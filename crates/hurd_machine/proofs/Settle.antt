@@ -215,7 +215,7 @@ KeepsNodes w (MakeNode n s node) = (is_entered node.header ≡ true) × (home_at
 KeepsNodes w (EditTask q f) = KeepsRights f
 KeepsNodes w c = LeavesSeats c
 
--- what stands after an edit stood before
+-- what comes after an edit stood before
 stood : (m : NodeMap) (k n : Name) (f : Node → Node) (x : Node) → get (edit k f m) n ≡ Some x → (y : Node) × (get m n ≡ Some y)
 stood m k n f x e = elim (was_edited m k n f x e) [ inl l ↦ (l.1, ap (get m) l.0 ∙ l.2) | inr h ↦ (x, h) ]
 

@@ -69,7 +69,7 @@ module _ (S : ℕ → Bool) (v w : World) (tasks : SameTasks S v w) (equal : (p 
   face_moved : {s : Name} → Knows S v s → Knows S w s → face_in (server_at w s) ≡ face_in (server_at v s)
   face_moved {s} k k' = let same = equal (OptionsOf s) k k' in cc
 
-  -- a server that is known is there, but for its text
+  -- a server that is known is there, except for its text
   server_moved : {s : Name} {i : ServerInfo} → Knows S v s → Knows S w s → server_at v s ≡ Some i → (text : List ℕ) × (server_at w s ≡ Some (with_text text i))
   server_moved {s} {i} k k' e = of_face i (server_at w s) (face_moved k k' ∙ ap face_in e)
 
@@ -199,7 +199,7 @@ module _ {S : ℕ → Bool} {v w : World} (a : Agree S v w) where
   pub open_same : (r : IoRight) → Holds S v (Io r) → open_at w r.open_name ≡ open_at v r.open_name
   open_same r h = let e = a.parts (OpenOf r.open_name) (r, h, refl) in cc
 
-  -- a server that S knows is the same but for its text, and one whose text it sees is the same
+  -- a server that S knows is the same except for its text, and one whose text it sees is the same
   pub face_known : (s : Name) → Knows S v s → face_in (server_at w s) ≡ face_in (server_at v s)
   face_known s k = let e = a.parts (OptionsOf s) k in cc
 

@@ -130,7 +130,7 @@ pub data Part : Type 0 where
   BodyOf : Name → Part  -- a node's bytes or entries
   EndsOf : Name → Part  -- how many opens read a node, and how many write it, where its server is told
   OpenOf : Name → Part  -- an open, and how many rights hold it
-  OptionsOf : Name → Part  -- a server, but for its text, unless that is a link's or a tree's
+  OptionsOf : Name → Part  -- a server, except for its text, unless that is a link's or a tree's
   TextOf : Name → Part  -- the text of a server
   UsersOf : Name → Part  -- how many rights there are on a server's nodes
   TotalOf : Name → Part  -- what the files of a server that entries name have in all
@@ -244,3 +244,12 @@ pub record SameView (S : ℕ → Bool) (v w : World) : Type 0 where
   pub tasks : length w.tasks ≡ length v.tasks
   pub seen : (p : Part) → Sees S v p ↔ Sees S w p
   pub parts : (p : Part) → Sees S v p → part w p ≡ part v p
+
+-- each task of S is one of G
+abbrev pub Within : (ℕ → Bool) → (ℕ → Bool) → Type 0
+Within S G = (t : ℕ) → S t ≡ true → G t ≡ true
+
+-- the parts except tasks
+abbrev pub IsThing : Part → Type 0
+IsThing (TaskOf t) = ⊥
+IsThing p = Unit {0}

@@ -1,4 +1,4 @@
--- Seats that change places: which of them stand behind the first, and what the table means.
+-- Seats that change places: which of them come after the first, and what the table means.
 use Rattle.std.proofs.Common.{arith, ◌≡◌, ◌≢◌, ◌⊎◌, inl, inr, ℕ, zero, suc, ◌+◌, ◌-◌, ◌<◌, ◌≤◌, Bool, true, false, cond, List, [], ◌∷◌, length, take, refl, sym, ap, ap₂, ◌∙◌}
 use Rattle.std.proofs.lemmas.Bool.{cases_Bool, cases_lt}
 use Rattle.std.proofs.lemmas.Option.{same_Some, slice_get-get_or, get_or_from_slice_get}
@@ -68,7 +68,7 @@ module _ {X : Type 0} where
         ],
       )
 
-  -- what stands behind stands on the list
+  -- what comes after stands on the list
   pub behind_more : (k : ℕ) (xs : List X) (x : X) (i : ℕ) → k ≤ i → slice_get xs i ≡ Some x → Behind k xs x
   behind_more k xs x i past is = record { at = i; past = past; is = is }
 
@@ -152,7 +152,7 @@ module _ {S : Type 0} (ss : List (Name × Seat S)) (apart : AreApart seat_key ss
     ]
   ]
 
-  -- one that is asked comes behind those that are asked
+  -- one that is asked comes after those that are asked
   pub last-moved : (k i : ℕ) → Some i ≡ place_by seat_key s ss → i < k → k ≤ length ss → AreBut s k ss (k - 1) (swap ss i (k - 1))
   last-moved k i at before fits x b other = elim (swap_got ss i (k - 1) b.at x (omega (arith, before, fits)) (omega (arith, before, fits)) b.is) [
     | inl here ↦ absurd (other (named-at ss s i x (sym at) here.1))
@@ -163,7 +163,7 @@ module _ {S : Type 0} (ss : List (Name × Seat S)) (apart : AreApart seat_key ss
     ]
   ]
 
--- where one is let go that was asked, those that stand behind did so before, or are this one
+-- where one is let go that was asked, those that come after did so before, or are this one
 pub go-moved : {X : Type 0} (xs : List X) (k i : ℕ) → i < k → k ≤ length xs → (x : X) → Behind (k - 1) (swap xs i (k - 1)) x → (slice_get xs i ≡ Some x) ⊎ Behind k xs x
 go-moved xs k i before fits x b = elim (swap_got xs i (k - 1) b.at x (omega (arith, before, fits)) (omega (arith, before, fits)) b.is) [
   | inl here ↦ inl here.1
@@ -250,7 +250,7 @@ module _ {X S : Type 0} (m l : IndexMap Name (Seat X) S) where
   unfolding seats_of
   seats-same same = same_map_by _ _ (λ q. row-got seat_value l.entries q ∙ ap (option_map seat_value) (same q) ∙ sym (row-got seat_value m.entries q))
 
--- what stands behind after a seat was put
+-- what comes after after a seat was put
 pub put-behind : {X : Type 0} (es : List (Name × X)) (n : Name) (v : X) (k : ℕ) (x : Name × X) → Behind k (insert_entry same_name es n v) x → (x ≡ (n, v)) ⊎ Behind k es x
 put-behind es n v k x b = elim (put_got es n v b.at x b.is) [
   | inl new ↦ inl new

@@ -2,7 +2,7 @@
 use Rattle.std.proofs.Common.{◌≡◌, ◌∙◌, ap, ℕ, List, ◌++◌, append_assoc, Result, Ok, Err}
 use Rattle.std.specs.Prelude.{OnOk, is_ok, if◌then◌else◌}
 
--- a text was added behind another
+-- a text was added after another
 pub join : (old front back mid new : List ℕ) → mid ≡ old ++ front → new ≡ mid ++ back → new ≡ old ++ (front ++ back)
 join old front back mid new is next = next ∙ (ap (λ (t : List ℕ). t ++ back) is ∙ append_assoc old front back)
 

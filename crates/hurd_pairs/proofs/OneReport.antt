@@ -59,7 +59,7 @@ told_once m n d e x y =
     let said = x.said ∙ sym y.said in
     λ i. record { one = one i; two = two i; said = said i }
 
--- views of the same two worlds are the same but for names, or they aren't
+-- views of the same two worlds are the same except for names, or they aren't
 
 one_renamed : (f : OtherNames) (a b c d : View) → IsOneView a c → IsOneView b d → IsRenamed f a b → IsRenamed f c d
 one_renamed f a b c d one other is = record {

@@ -43,7 +43,7 @@ module _ (S : ℕ → Bool) where
   at_own [] t next own = absurd (cc)
   at_own (p ∷ rest) t next own = (p, rest, refl, ap S (some_is p.task t next) ∙ own)
 
-  -- what they do next was told: one moment passed, and what is left are those behind it
+  -- what they do next was told: one moment passed, and what is left are those after it
   pub record PassesOne (old new : Way) (o : Option Answer) : Type 0 where
     pub rest : List Moment
     pub is : moments_left S old ≡ record { made = old.told; world = old.world; answer = o } ∷ rest

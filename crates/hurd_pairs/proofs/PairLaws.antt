@@ -115,7 +115,7 @@ module _ (S : ℕ → Bool) (cs : List CommandLine) where
       let is : at ≡ length cs = omega (arith, within, past) in
       end_reached from (omega (arith, behind, within)) (same ∙ ap (λ (k : ℕ). own_from S k (drop k cs)) is)
 
-  -- what stands at such a place: a command of theirs, and those behind it, or the end
+  -- what stands at such a place: a command of theirs, and those after it, or the end
   pub record Head (at : ℕ) : Type 0 where
     pub rest : List Own
     pub is : own_from S at (drop at cs) ≡ record { made = at; command = slice_get cs at } ∷ rest

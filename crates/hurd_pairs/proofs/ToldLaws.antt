@@ -63,7 +63,7 @@ not_before S j k w (p ∷ ps) behind = go (S p.task) refl (not_before S (j + 1) 
     go true own rest = rw (moments_own S j w p ps own) (behind, rest)
     go false other rest = rw (moments_other S j w p ps other) rest
 
--- something else is seen at these moments first, and not behind those
+-- something else is seen at these moments first, and not after those
 abbrev SeenBy : Option (Moment × Moment) → Moment → Moment → Type 0
 SeenBy seen m n = (x y : Moment) × (seen ≡ Some (x, y)) × (x.made ≤ m.made) × (y.made ≤ n.made)
 

@@ -13,7 +13,7 @@ use Rattle.hurd_pairs.specs.Moments.{FirstOther, Moment, TellOther, TellSame}
 use Rattle.hurd_pairs.specs.declared.difference.Compared.{Compared}
 use Rattle.hurd_pairs.specs.declared.difference.Difference.{Difference}
 
--- these tasks' views of two worlds are the same but for names of what others made, or they aren't
+-- these tasks' views of two worlds are the same except for names of what others made, or they aren't
 abbrev pub SeeAlike : List TaskId → World → World → Type 0
 SeeAlike tasks v w = (a b : View) × Views tasks v a × Views tasks w b × AreAlike (among tasks) a b
 

@@ -23,7 +23,7 @@ pub record Own : Type 0 where
   pub made : ℕ
   pub command : Option CommandLine
 
--- the commands of tasks of S, of commands behind so many; and at last the end
+-- the commands of tasks of S, of commands after so many; and at last the end
 unfoldable pub own_from : (ℕ → Bool) → ℕ → List CommandLine → List Own
 own_from S made [] = record { made = made; command = None } ∷ []
 own_from S made (c ∷ cs) =

@@ -70,7 +70,7 @@ abbrev pub verdict_of : Option Difference → Verdict
 verdict_of None = Same
 verdict_of (Some d) = Different
 
--- a report on two scripts that are a pair for those whom a word names: where they first see and are told something else, and whether they are told the same
+-- a report on two scripts that are a pair for those that WHO names: where they first see and are told something else, and whether they are told the same
 pub record Reports (word one two : List ℕ) (verdict : Verdict) (text : List ℕ) : Type 0 where
   pub learners : Learners
   pub these : AreThese scripts word one learners
@@ -81,7 +81,7 @@ pub record Reports (word one two : List ℕ) (verdict : Verdict) (text : List �
   pub judged : verdict ≡ verdict_of compared.told
   pub is : text ≡ report_text learners (lines_in scripts one) (lines_in scripts two) compared
 
--- why a text can't be told for those whom a word names
+-- why a text can't be told for those that WHO names
 abbrev pub IsFaulty : Sort → List ℕ → List ℕ → Fault → Type 0
 IsFaulty sort word text (Bad line) = sort.bad text ≡ Some line
 IsFaulty sort word text (Boot e) = (sort.bad text ≡ None) × (sort.boot text ≡ Err e)

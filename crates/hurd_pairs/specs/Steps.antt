@@ -38,7 +38,7 @@ abbrev pub HearsAt : ℕ → ℕ → Option Answer → Option Answer → Option 
 HearsAt one two s t old new =
     (v w : World) → Hears (record { made = one; world = v; answer = s }) (record { made = two; world = w; answer = t }) old new
 
--- the next moments of both were compared; what is left are those behind them, or none of one of the two
+-- the next moments of both were compared; what is left are those after them, or none of one of the two
 pub record StepsTo (tasks : List TaskId) (sees : List ℕ) (one two : Way) (old : Compared) (more : Bool) (one_then two_then : Way) (new : Compared) : Type 0 where
   pub m : Moment
   pub n : Moment

@@ -20,8 +20,8 @@ use hurd_words::marks::push_marked;
 use hurd_world::World;
 use std::alloc::{AllocError, Global};
 
-/// What some see otherwise of the second world than of the first, in lines; nothing where nothing differs but names of what others made. An error is want of
-/// memory.
+/// What some see otherwise of the second world than of the first, in lines; nothing where nothing differs but names of what others made. Fails only if
+/// memory runs out.
 fn seen_otherwise<S: Server>(
     alloc: Global,
     one: &World<S>,
@@ -39,7 +39,7 @@ fn seen_otherwise<S: Server>(
     Ok(Some(said))
 }
 
-/// Compares what some see of the worlds of two texts on their way, unless something else was seen before. An error is want of memory.
+/// Compares what some see of the worlds of two texts on their way, unless something else was seen before. Fails only if memory runs out.
 fn look<T: Telling>(
     alloc: Global,
     one: &T,
@@ -121,8 +121,8 @@ fn are_both(part: &Option<Answer>, other: &Option<Answer>) -> bool
     part.is_some() && other.is_some()
 }
 
-/// Goes on in both texts to what some do next, compares what they see there and what they are told of it; whether there was something in both. An error
-/// is want of memory.
+/// Goes on in both texts to what some do next, compares what they see there and what they are told of it; whether there was something in both. Fails only
+/// if memory runs out.
 fn step<T: Telling>(
     alloc: Global,
     one: &mut T,
@@ -143,7 +143,7 @@ fn step<T: Telling>(
     Ok(are_both(&part, &other))
 }
 
-/// Compares two texts on their way up to their ends, or until both differences are found. An error is want of memory.
+/// Compares two texts on their way up to their ends, or until both differences are found. Fails only if memory runs out.
 pub(crate) fn compare<T: Telling>(
     alloc: Global,
     one: &mut T,

@@ -10,7 +10,7 @@ use hurd_words::lines::is_skipped;
 use hurd_words::words::pieces;
 use std::alloc::{AllocError, Global};
 
-/// The numbers of the lines that say something, counted from 1. An error is want of memory.
+/// The numbers of the lines that say something, counted from 1. Fails only if memory runs out.
 fn said_lines(alloc: Global, text: &[u8]) -> Result<Vec<usize>, AllocError>
     ensures { IfOk result (λ numbers. numbers.items ≡ numbers_from 1 (lines_of text.now)) }
 {
@@ -25,7 +25,7 @@ fn said_lines(alloc: Global, text: &[u8]) -> Result<Vec<usize>, AllocError>
 }
 
 /// The line, counted from 1, of the part before which so many stand in a text whose parts are preceded by so many lines that say something, and one; none
-/// where there are fewer parts. An error is want of memory.
+/// where there are fewer parts. Fails only if memory runs out.
 pub(crate) fn line_before(
     alloc: Global,
     heading: usize,
@@ -44,7 +44,7 @@ pub(crate) fn line_before(
     }
 }
 
-/// The line of the command before which so many stand in a good script; none where there are fewer. An error is want of memory, or a bad script.
+/// The line of the command before which so many stand in a good script; none where there are fewer. Fails if memory runs out, or if the script is bad.
 pub fn line_in_script(alloc: Global, text: &[u8], made: usize) -> Result<Option<usize>, AllocError>
     ensures { IfOk result (λ line. line ≡ lines_in scripts text.now made) }
 {

@@ -24,7 +24,7 @@ fn same_ids(some: &[Ids], others: &[Ids]) -> bool
     true
 }
 
-/// The place of the next command of these tasks, from a place on; behind all commands where none is left.
+/// The place of the next command of these tasks, from a place on; after all commands where none is left.
 fn next_own(commands: &[Command], from: usize, learners: &Learners) -> usize
     requires { from ≤ length commands.now }
     ensures { IsNextOwn (among learners.now.tasks.items) commands.now from result }
@@ -88,7 +88,7 @@ fn mismatch_of(one: &Script, two: &Script, learners: &Learners) -> Option<Mismat
     other_command(one.commands.as_slice(), two.commands.as_slice(), learners)
 }
 
-/// Why two good scripts are no pair for these tasks, if they are none. An error is want of memory, or a bad script.
+/// Why two good scripts are no pair for these tasks, if they are none. Fails if memory runs out, or if the script is bad.
 pub(crate) fn mismatch(
     alloc: Global,
     one: &[u8],

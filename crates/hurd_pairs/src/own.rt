@@ -8,7 +8,7 @@ use hurd_dialogue::Telling;
 use hurd_teaching::Learners;
 use std::alloc::{AllocError, Global};
 
-/// Tells nobody what others do, up to the next part of these tasks, or to the end; whether there is one. An error is want of memory.
+/// Tells nobody what others do, up to the next part of these tasks, or to the end; whether there is one. Fails only if memory runs out.
 pub(crate) fn reach_own<T: Telling>(
     alloc: Global,
     telling: &mut T,

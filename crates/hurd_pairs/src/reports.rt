@@ -17,7 +17,7 @@ pub(crate) struct Lined<'a> {
     pub heading: usize,
 }
 
-/// Adds a place in a text: the line of a number, behind a word, or the end.
+/// Adds a place in a text: the line of a number, after a word, or the end.
 #[tactic(auto, unfolding(crate::specs::Reports::place_text))]
 fn push_place(text: &mut Vec<u8>, word: &str, line: Option<usize>) -> Result<(), AllocError>
     ensures { OnOk result (text.new.items ≡ text.old.items ++ place_text word.now line) }
@@ -137,7 +137,7 @@ fn push_told(
     }
 }
 
-/// The report on two texts. An error is want of memory.
+/// The report on two texts. Fails only if memory runs out.
 pub(crate) fn report(
     alloc: Global,
     learners: &Learners,

@@ -19,7 +19,7 @@ use hurd_terminal::{Fault, Output};
 use std::alloc::Global;
 use std::io::Write;
 
-/// Begins a text, and finds those whom a word names.
+/// Begins a text, and finds those that WHO names.
 ///
 /// `Bad` with the line at which it is bad, `Boot` with its world's refusal, `Unknown` where somebody is named who isn't in it; `Memory`.
 fn fit<T: Telling>(alloc: Global, word: &str, text: &[u8]) -> Result<(Box<T>, Learners), Fault>
@@ -61,7 +61,7 @@ fn compare_fit<T: Telling, W: Write>(
     Ok(verdict(&compared))
 }
 
-/// Runs two scripts side by side, and prints where those whom a word names first see something different in the second, and where they first get a
+/// Runs two scripts side by side, and prints where those that WHO names first see something different in the second, and where they first get a
 /// different reply; returns whether they get the same replies.
 ///
 /// Errors, in order, of the first and then of the second script: `Bad` with the line at which it is bad, `Boot` with its world's refusal, `Unknown` where

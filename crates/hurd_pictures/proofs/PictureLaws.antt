@@ -1,4 +1,4 @@
--- The parts of a picture, one behind the other.
+-- The parts of a picture, one after the other.
 use Rattle.std.proofs.Common.{◌≡◌, ◌∙◌, ◌++◌, ℕ, List, ap, append_assoc}
 use Rattle.std.specs.Prelude.{Result, OnOk}
 use Rattle.hurd_pictures.specs.Labels.{shown}

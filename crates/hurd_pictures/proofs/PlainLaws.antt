@@ -18,7 +18,7 @@ if_plain : (t : Bool) (x y : List ℕ) → list_all is_plain x ≡ true → (t �
 if_plain true x y p q = p
 if_plain false x y p q = q refl
 
--- what can be printed is, but for markup
+-- what can be printed is, except for markup
 print_plain : (b : ℕ) → (nat_le 33 b && nat_le b 126) ≡ true → b == 60 ≡ false → b == 62 ≡ false → b == 34 ≡ false → is_plain b ≡ true
 print_plain b inside n60 n62 n34 =
     let parts = and_parts (nat_le 33 b) (nat_le b 126) inside in

@@ -1,4 +1,4 @@
--- Texts that are added one behind the other.
+-- Texts that are added one after the other.
 use Rattle.std.proofs.Common.{◌≡◌, ◌∙◌, ◌++◌, ℕ, List, ap, append_assoc}
 use Rattle.std.specs.Prelude.{Result, Ok, Err, OnOk}
 

@@ -31,7 +31,7 @@ shown (b ∷ bs) = label (b ∷ bs)
 unfoldable pub short_label : List ℕ → List ℕ
 short_label bs = if nat_le (length bs) 24 then shown bs else label (take 24 bs) ++ codes " .."
 
--- words, each behind a space
+-- words, each after a space
 abbrev pub more_words : List (List ℕ) → List ℕ
 more_words [] = []
 more_words (word ∷ words) = (32 ∷ short_label word) ++ more_words words

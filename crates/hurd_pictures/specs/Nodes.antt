@@ -50,7 +50,7 @@ short_mode n =
     else if nat_lt n 4096 then octal_digit (n / 512) ∷ octal_digit (n / 64) ∷ octal_digit (n / 8) ∷ octal_digit n ∷ []
     else six_octal_digits n
 
--- the word behind a number of bytes
+-- the word after a number of bytes
 abbrev pub bytes_word : ℕ → List ℕ
 bytes_word n = if n == 1 then codes " byte" else codes " bytes"
 

@@ -23,12 +23,12 @@ abbrev pub targets_text : View → Name → List Name → List ℕ
 targets_text v root [] = []
 targets_text v root (n ∷ ns) = target_text v root n ++ targets_text v root ns
 
--- a mark and the first of some bytes behind a space, where there are any bytes
+-- a mark and the first of some bytes after a space, where there are any bytes
 abbrev pub marked_label : List ℕ → List ℕ → List ℕ
 marked_label mark [] = []
 marked_label mark (b ∷ bs) = codes " " ++ (mark ++ short_label (b ∷ bs))
 
--- the program of a server, and behind it a link's text, or the word that says a tree's limit
+-- the program of a server, and after it a link's text, or the word that says a tree's limit
 abbrev pub program_text : ServerRow → List ℕ
 program_text s = short_label s.program ++ marked_label (text_mark s.program) s.text
 

@@ -36,7 +36,7 @@ same_ids a b = (set.is_subset a.uids b.uids && set.is_subset b.uids a.uids) && (
 unfoldable pub ids_text : Titles → IdSets → IdSets → List ℕ
 ids_text ts own ids = if same_ids own ids then [] else codes "<br/>as " ++ runner_text ts (least_uid ids)
 
--- what an open allows, each mode behind a space
+-- what an open allows, each mode after a space
 abbrev pub modes_text : OpenFlags → List ℕ
 modes_text f =
     text_if (bit.asks f bit.READ) (codes " read") ++ (text_if (bit.asks f bit.WRITE) (codes " write")

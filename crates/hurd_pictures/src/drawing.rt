@@ -18,7 +18,7 @@ const HEAD: &[u8] =
 /// What stands in front of those who are marked.
 const LEGEND: &[u8] = b"  label=<<table border=\"0\" cellspacing=\"6\"><tr><td>What <b>";
 
-/// What stands behind them: the colours.
+/// What comes after them: the colours.
 const LEGEND_END: &[u8] =
     b"</b>:</td><td border=\"2\" color=\"#c98a00\" bgcolor=\"#ffe08a\">all of it</td><td border=\"2\" color=\"#c98a00\" bgcolor=\"white\">that it is there, its owner, mode and size</td><td border=\"1\" style=\"dashed\" color=\"#9a9a9a\" bgcolor=\"#ececec\"><font color=\"#6a6a6a\">nothing of it</font></td></tr></table>>;\n";
 
@@ -106,7 +106,7 @@ fn push_rows(
 }
 
 /// A picture of all that these tasks see in a view, as text for Graphviz. Where there is a view of others, it is marked what these see, and the
-/// legend says who they are, by these words, as `alice sees`. An error is want of memory.
+/// legend says who they are, by these words, as `alice sees`. Fails only if memory runs out.
 pub fn picture(
     alloc: Global,
     titles: &Titles,

@@ -61,7 +61,7 @@ pub(crate) fn push_node_name(text: &mut Vec<u8>, node: NodeName) -> Result<(), A
     push_numbers(text, node)
 }
 
-/// Adds words, each behind a space.
+/// Adds words, each after a space.
 pub(crate) fn push_more_words(text: &mut Vec<u8>, words: &[Bytes]) -> Result<(), AllocError>
     ensures { OnOk result (text.new.items ≡ text.old.items ++ more_words words.now) }
 {

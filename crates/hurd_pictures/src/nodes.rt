@@ -102,7 +102,7 @@ fn push_short_mode(text: &mut Vec<u8>, mode: Mode) -> Result<(), AllocError>
     )
 }
 
-/// The word behind a number of bytes.
+/// The word after a number of bytes.
 fn bytes_word(count: u64) -> &'static [u8]
     ensures { result.now ≡ bytes_word count }
 {

@@ -42,7 +42,7 @@ fn push_targets(
     Ok(())
 }
 
-/// Adds a mark and the first of some bytes behind a space, where there are any bytes.
+/// Adds a mark and the first of some bytes after a space, where there are any bytes.
 fn push_marked_label(text: &mut Vec<u8>, mark: &[u8], bytes: &[u8]) -> Result<(), AllocError>
     ensures { OnOk result (text.new.items ≡ text.old.items ++ marked_label mark.now bytes.now) }
 {
@@ -54,7 +54,7 @@ fn push_marked_label(text: &mut Vec<u8>, mark: &[u8], bytes: &[u8]) -> Result<()
     push_short(text, bytes)
 }
 
-/// Adds the program of a server, and behind it a link's text, or the word that says a tree's limit.
+/// Adds the program of a server, and after it a link's text, or the word that says a tree's limit.
 fn push_program(text: &mut Vec<u8>, server: &ServerRow) -> Result<(), AllocError>
     ensures { OnOk result (text.new.items ≡ text.old.items ++ program_text server.now) }
 {

@@ -54,7 +54,7 @@ fn push_ids(text: &mut Vec<u8>, titles: &Titles, own: &Ids, ids: &Ids) -> Result
     titles.push_runner(text, ids)
 }
 
-/// Adds what an open allows, each mode behind a space.
+/// Adds what an open allows, each mode after a space.
 fn push_modes(text: &mut Vec<u8>, modes: OpenFlags) -> Result<(), AllocError>
     ensures { OnOk result (text.new.items ≡ text.old.items ++ modes_text modes) }
 {

@@ -18,7 +18,7 @@ use Rattle.hurd_places.proofs.CutLaws.{is_cut, is_inner, is_whole}
 use Rattle.hurd_places.proofs.EachBeside.{each_beside}
 use Rattle.hurd_places.proofs.StepLaws.{IsLast, underlying_last, child_front, child_last, front, is_last, is_stem, last, split}
 
--- whether a text begins with a bracket; whether no bracket stands behind a space; and whether no space stands last
+-- whether a text begins with a bracket; whether no bracket comes after a space; and whether no space stands last
 
 abbrev opens : List ℕ → Bool
 opens [] = false

@@ -115,7 +115,7 @@ pub decimal_whole : (n : ℕ) → is_whole (decimal n) ≡ true
 unfolding digits
 decimal_whole n = onto_whole 64 n [] refl
 
--- a word with a number, behind its bracket
+-- a word with a number, after its bracket
 abbrev pub numbered_rest : List ℕ → ℕ → List ℕ
 numbered_rest word k = word ++ (spaced k ++ 41 ∷ [])
 

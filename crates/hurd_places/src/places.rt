@@ -9,7 +9,7 @@ use hurd_creds::{Name, NodeName, OpenName, ServerName};
 use hurd_views::{Row, View};
 use std::alloc::{AllocError, Global};
 
-/// The path of a node. An error is want of memory.
+/// The path of a node. Fails only if memory runs out.
 pub fn node_path(alloc: Global, view: &View, node: NodeName) -> Result<Vec<u8>, AllocError>
     ensures { IfOk result (λ path. path.items ≡ node_path view.now node) }
 {
@@ -19,7 +19,7 @@ pub fn node_path(alloc: Global, view: &View, node: NodeName) -> Result<Vec<u8>, 
     Ok(path)
 }
 
-/// Where a node is: its path, and the ports on it. An error is want of memory.
+/// Where a node is: its path, and the ports on it. Fails only if memory runs out.
 pub fn node_place(alloc: Global, view: &View, node: NodeName) -> Result<Vec<u8>, AllocError>
     ensures { IfOk result (λ place. place.items ≡ node_place view.now node) }
 {
@@ -37,7 +37,7 @@ fn open_place(alloc: Global, view: &View, open_name: OpenName) -> Result<Vec<u8>
     Ok(place)
 }
 
-/// Where a server is: at its first node, or else at the first on which it is active. An error is want of memory.
+/// Where a server is: at its first node, or else at the first on which it is active. Fails only if memory runs out.
 pub fn server_path(alloc: Global, view: &View, server: ServerName) -> Result<Vec<u8>, AllocError>
     ensures { IfOk result (λ path. path.items ≡ server_path view.now server) }
 {
@@ -49,7 +49,7 @@ pub fn server_path(alloc: Global, view: &View, server: ServerName) -> Result<Vec
     Ok(path)
 }
 
-/// Where that is of which a row tells: a node, an open, or a server. An error is want of memory.
+/// Where that is of which a row tells: a node, an open, or a server. Fails only if memory runs out.
 pub fn place(alloc: Global, view: &View, name: Name, row: &Row) -> Result<Vec<u8>, AllocError>
     ensures { IfOk result (λ place. place.items ≡ place_by view.now name row.now) }
 {

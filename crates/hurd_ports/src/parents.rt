@@ -75,7 +75,7 @@ impl Parents {
         self.ways.len() >= MOST_PARENTS
     }
 
-    /// The same ways behind another, which is the latest.
+    /// The same ways after another, which is the latest.
     pub fn entered(&self, alloc: Global, way: Parent) -> Result<Parents, AllocError>
         requires { length self.now < most_parents }
         ensures { IfOk result (λ p. p ≡ way ∷ self.now) }

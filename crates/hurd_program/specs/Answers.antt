@@ -4,7 +4,7 @@ use Rattle.hurd_terminal.specs.Runs.{IsTaken, Program}
 use Rattle.hurd_terminal.specs.declared.fault.Fault.{Fault}
 use Rattle.hurd_terminal.specs.declared.fault.Fault.TheVariants.{Bad, Unknown, Boot, Memory}
 
--- what is said of a fault behind the name of a file: why its text is bad, or who isn't in it; nothing where a world is refused
+-- what is said of a fault after the name of a file: why its text is bad, or who isn't in it; nothing where a world is refused
 abbrev pub IsWhy : Program → List ℕ → Fault → List ℕ → Type 0
 IsWhy p text (Bad line) said = said ≡ p.complaint text
 IsWhy p text Unknown said = said ≡ p.stranger

@@ -28,7 +28,7 @@ pair_status (Err (NoPair why)) = 1
 abbrev pub at_line : ℕ → List ℕ
 at_line line = codes ":" ++ decimal line
 
--- what is said behind the name of the second file where a command is another, by the lines in the first and in the second, where there are such
+-- what is said after the name of the second file where a command is another, by the lines in the first and in the second, where there are such
 abbrev pub other_command : List ℕ → Option ℕ → Option ℕ → List ℕ
 other_command first (Some one) (Some two) = at_line two ++ (codes ": not comparable: differs from " ++ (first ++ at_line one))
 other_command first (Some one) None = codes ": not comparable: lacks the command at " ++ (first ++ at_line one)

@@ -11,13 +11,13 @@ use std::alloc::{AllocError, Global};
 /// What is told of a text, and how that ended.
 #[derive(Debug, Drop)]
 pub struct Answer {
-    /// All that is printed of it. Of a bad text, and where somebody is named who isn't in it: what is said behind the name of a file. Else nothing.
+    /// All that is printed of it. Of a bad text, and where somebody is named who isn't in it: what is said after the name of a file. Else nothing.
     pub told: Vec<u8>,
     /// `Bad`, `Boot`, `Unknown`, or `Memory` where that was refused.
     pub ended: Result<(), Fault>,
 }
 
-/// What is said of a fault behind the name of a file. An error is want of memory, also that of a writer in memory.
+/// What is said of a fault after the name of a file. Fails only if memory runs out, also that of a writer in memory.
 fn reason(
     alloc: Global,
     request: &Request,

@@ -133,7 +133,7 @@ fn say_mismatch<E: Write>(
     }
 }
 
-/// Says that somebody is named who isn't in a script, or that memory was refused for that; answers the exit status.
+/// Says that somebody is named who isn't in a script, or that memory was refused for that; returns the exit status.
 fn say_stranger<E: Write>(alloc: Global, who: &str, file: &[u8], errors: &mut Output<E>) -> u8
     ensures { (ended : Result (Unit {0}) Fault) × ((ended ≡ Err Fault.Unknown) ⊎ (ended ≡ Err Fault.Memory))
         × ((complaint : List ℕ) → Says E.contents errors.old errors.new (line_of file.now complaint (scripts.stranger ++ (escaped who.now ++ codes "\n")) ended))
@@ -145,7 +145,7 @@ fn say_stranger<E: Write>(alloc: Global, who: &str, file: &[u8], errors: &mut Ou
     }
 }
 
-/// Says of a script why it isn't told, or that memory was refused for that; answers the exit status.
+/// Says of a script why it isn't told, or that memory was refused for that; returns the exit status.
 fn say_fault<E: Write>(
     alloc: Global,
     who: &str,
@@ -165,7 +165,7 @@ fn say_fault<E: Write>(
     }
 }
 
-/// Compares two scripts, and says of a fault why, by the names of their files; answers the exit status.
+/// Compares two scripts, and says of a fault why, by the names of their files; returns the exit status.
 fn compare_read<W: Write, E: Write>(
     alloc: Global,
     who: &str,
@@ -187,7 +187,7 @@ fn compare_read<W: Write, E: Write>(
     }
 }
 
-/// The whole program for two files: reads two scripts, prints where those whom a word names first see something different in the second, and where they first
+/// The whole program for two files: reads two scripts, prints where those that WHO names first see something different in the second, and where they first
 /// get a different reply, and says of a fault why, by the names of the files; returns the exit status: 0 if they get the same replies, 3 if they get a different
 /// one, 1 for a bad script, if somebody is named who isn't in it, and for scripts that cannot be compared, 2 for all else.
 pub fn perform_pair<R: Read, Q: Read, W: Write, E: Write>(

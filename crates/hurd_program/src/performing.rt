@@ -53,7 +53,7 @@ pub(crate) fn done<W: Write>(
     }
 }
 
-/// What is said behind the name of a file whose text is bad. An error is want of memory.
+/// What is said after the name of a file whose text is bad. Fails only if memory runs out.
 pub(crate) fn complaint(alloc: Global, sort: TextSort, text: &[u8]) -> Result<Vec<u8>, AllocError>
     ensures { IfOk result (λ said. said.items ≡ (sort_of sort).complaint text.now) }
 {
@@ -63,7 +63,7 @@ pub(crate) fn complaint(alloc: Global, sort: TextSort, text: &[u8]) -> Result<Ve
     }
 }
 
-/// Says of a file why its text is bad, at this line, or that memory was refused for that; answers the exit status.
+/// Says of a file why its text is bad, at this line, or that memory was refused for that; returns the exit status.
 pub(crate) fn blame<E: Write>(
     alloc: Global,
     sort: TextSort,
@@ -91,7 +91,7 @@ pub(crate) fn stranger(sort: TextSort) -> &'static [u8]
     }
 }
 
-/// What is said behind the name of a file where somebody is named who isn't in it. An error is want of memory.
+/// What is said after the name of a file where somebody is named who isn't in it. Fails only if memory runs out.
 pub(crate) fn named_line(alloc: Global, stranger: &[u8], who: &str) -> Result<Vec<u8>, AllocError>
     ensures { IfOk result (λ line. line.items ≡ stranger.now ++ (escaped who.now ++ codes "\n")) }
 {
@@ -101,7 +101,7 @@ pub(crate) fn named_line(alloc: Global, stranger: &[u8], who: &str) -> Result<Ve
     Ok(line)
 }
 
-/// The same of what is asked; nothing where nobody is named. An error is want of memory.
+/// The same of what is asked; nothing where nobody is named. Fails only if memory runs out.
 pub(crate) fn stranger_line(alloc: Global, request: &Request) -> Result<Vec<u8>, AllocError>
     ensures { IfOk result (λ line. line.items ≡ (asked request.now).stranger) }
 {
@@ -115,7 +115,7 @@ pub(crate) fn stranger_line(alloc: Global, request: &Request) -> Result<Vec<u8>,
     }
 }
 
-/// Does what is asked of a text, and says of a fault why, by the name of its file; answers the exit status.
+/// Does what is asked of a text, and says of a fault why, by the name of its file; returns the exit status.
 fn perform_on<W: Write, E: Write>(
     alloc: Global,
     request: &Request,
@@ -134,7 +134,7 @@ fn perform_on<W: Write, E: Write>(
     }
 }
 
-/// The whole program: reads a text, does what is asked of it, and says of a fault why, by the name of its file; answers the exit status.
+/// The whole program: reads a text, does what is asked of it, and says of a fault why, by the name of its file; returns the exit status.
 pub fn perform<R: Read, W: Write, E: Write>(
     alloc: Global,
     request: &Request,

@@ -77,7 +77,7 @@ fn say<E: Write>(trouble: SampleTrouble, errors: &mut Output<E>)
 }
 
 /// The whole program for a random text: prints a script of so many commands, or a list of so many calls, the same for the same seed, and says why there is none;
-/// answers the exit status: 0 where all was printed, 2 where so many have no room, where there is no memory, and where a write failed.
+/// returns the exit status: 0 where all was printed, 2 where so many have no room, where there is no memory, and where a write failed.
 pub fn perform_sample<W: Write, E: Write>(
     alloc: Global,
     sort: TextSort,

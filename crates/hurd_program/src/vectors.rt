@@ -9,7 +9,7 @@ use hurd_vectors::print_vectors;
 use std::alloc::Global;
 use std::io::{Read, Write};
 
-/// Prints the vectors of a list, and says of a fault why, by the name of its file; answers the exit status.
+/// Prints the vectors of a list, and says of a fault why, by the name of its file; returns the exit status.
 fn tell_vectors<W: Write, E: Write>(
     alloc: Global,
     file: &[u8],

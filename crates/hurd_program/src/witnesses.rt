@@ -24,7 +24,7 @@ fn bad_line(ended: Result<(), Fault>) -> Option<u64>
     }
 }
 
-/// Prints what those learn of a script whom a word names, with how they could be told it, and says of a fault why, by the name of its file; answers the exit
+/// Prints what those that WHO names learn of a script, with how they could be told it, and says of a fault why, by the name of its file; returns the exit
 /// status.
 fn find_read<W: Write, E: Write>(
     alloc: Global,
@@ -45,8 +45,8 @@ fn find_read<W: Write, E: Write>(
     }
 }
 
-/// The whole program for witnesses: reads a script, prints what those learn by it whom a word names, and behind each line of that a command of theirs that is
-/// answered otherwise; and says of a fault why, by the name of its file; answers the exit status.
+/// The whole program for witnesses: reads a script, prints what those learn by it, and after each line of that a command of theirs that is
+/// answered otherwise; and says of a fault why, by the name of its file; returns the exit status.
 pub fn perform_witnesses<R: Read, W: Write, E: Write>(
     alloc: Global,
     who: &str,

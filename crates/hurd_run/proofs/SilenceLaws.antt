@@ -18,12 +18,12 @@ use Rattle.hurd_teaching.specs.Lessons.{LessonsOf}
 use Rattle.hurd_run.specs.Silence.{AsWithoutTheSilent, Silent}
 
 module _ (tasks : List TaskId) (who : Speech) (make : Maker) where
-  -- what is said of a script's commands is said of the first, and of the others in the world behind it
+  -- what is said of a script's commands is said of the first, and of the others in the world after it
   first_lesson : (n : ℕ) (c : CommandLine) (cs : List CommandLine) (w : World) (said : List Said) → LessonsOf tasks who n w (told_by make (dialogue (c ∷ cs) w)) said
       → LessonsOf tasks who n w (part_at make c w ∷ told_by make (dialogue cs (run w (command_calls make c w)))) said
   first_lesson n c cs w said lessons = subst (λ (ps : List Part). LessonsOf tasks who n w ps said) (first_told make c cs w) lessons
 
-  -- what is said behind some commands is said of those from the world after the others
+  -- what is said after some commands is said of those from the world after the others
   lessons_behind : (n : ℕ) (before cs : List CommandLine) (w : World) (said : List Said) → LessonsOf tasks who n w (told_by make (dialogue (before ++ cs) w)) said
       → (m : ℕ) × (m ≡ n + length before) × LessonsOf tasks who m (world_after make before w) (told_by make (dialogue cs (world_after make before w))) (drop (length before) said)
   lessons_behind n [] cs w said lessons = (n, omega arith, lessons)

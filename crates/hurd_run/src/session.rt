@@ -50,7 +50,7 @@ fn blamed(alloc: Global, text: &[u8], fault: ScriptFault) -> Result<Vec<u8>, All
     }
 }
 
-/// What is said behind the name of a file whose script is bad: the line, why, and what stands there; of a good one nothing. An error is want of memory.
+/// What is said after the name of a file whose script is bad: the line, why, and what stands there; of a good one nothing. Fails only if memory runs out.
 pub(crate) fn complaint_of(alloc: Global, text: &[u8]) -> Result<Vec<u8>, AllocError>
     ensures { IfOk result (λ said. said.items ≡ scripts.complaint text.now) }
 {
@@ -77,8 +77,8 @@ pub(crate) fn booted<S: Server>(
     Ok(boxed(alloc, Session::begin(alloc, script, root)?)?)
 }
 
-/// What the next command of a session is answered, with the servers that it asks for on the way, as far as their words make any; none at its end. An error is
-/// want of memory.
+/// What the next command of a session is answered, with the servers that it asks for on the way, as far as their words make any; none at its end. Fails only if
+/// memory runs out.
 pub(crate) fn next_part(
     alloc: Global,
     session: &mut Session<ServerBox>,

@@ -53,7 +53,7 @@ verb _ = (record { visible = refl; text = refl; bytes = refl }, refl)
 abbrev pub line_of : User → Verb → List (List ℕ) → List ℕ
 line_of u v ws = user_word u ++ (32 ∷ (verb_word v ++ spaced ws))
 
--- words behind spaces are cut there again
+-- words after spaces are cut there again
 cut : (x : List ℕ) (ws : List (List ℕ)) → NoByte 32 x → slice_split (λ b. nat_eq b 32) (x ++ spaced ws) ≡ x ∷ map written ws
 cut x [] h = rw (append-nil x) (slice_split_none (λ b. nat_eq b 32) x h)
 cut x (w ∷ ws) h =
@@ -97,7 +97,7 @@ line_words_good u v ws =
 line_words : (u : User) (v : Verb) (ws : List (List ℕ)) → words_of (line_of u v ws) ≡ user_word u ∷ verb_word v ∷ filter_map text_of (kept ws)
 line_words u v ws = ap (filter_map text_of) (line_written u v ws) ∙ rw ((name u).plain.text, (verb v).0.text) refl
 
--- behind the users of a sample a line is good, and declares nobody
+-- after the users of a sample a line is good, and declares nobody
 pub line_good : (earlier : List (List ℕ)) (u : User) (v : Verb) (ws : List (List ℕ)) → AreDeclared earlier → is_bad_line earlier (line_of u v ws) ≡ false
 line_good earlier u v ws names =
     rw ((name u).said (32 ∷ (verb_word v ++ spaced ws)), line_words_good u v ws, line_words u v ws, (name u).other (verb_word v ∷ filter_map text_of (kept ws)), names, (name u).known, (verb v).1) refl

@@ -17,7 +17,7 @@ use Rattle.hurd_sample.specs.Written.{command_line, commands_text, script_text}
 use Rattle.hurd_sample.specs.declared.command.Drawn.{Drawn}
 use Rattle.hurd_sample.proofs.LineLaws.{line_command, line_good, line_whole, names_stay, AreDeclared}
 
--- the lines of commands: behind the last newline stands an empty one
+-- the lines of commands: after the last newline stands an empty one
 lines : List Drawn → List (List ℕ)
 lines [] = [] ∷ []
 lines (c ∷ cs) = command_line c ∷ lines cs

@@ -43,7 +43,7 @@ abbrev pub written : List ℕ → List ℕ
 written [] = []
 written (b ∷ bs) = written_byte b ++ written bs
 
--- words, each behind a space
+-- words, each after a space
 abbrev pub spaced : List (List ℕ) → List ℕ
 spaced [] = []
 spaced (word ∷ words) = 32 ∷ (written word ++ spaced words)
@@ -56,7 +56,7 @@ command_line c = user_word c.user ++ (32 ∷ (verb_word c.verb ++ spaced (map st
 abbrev pub command_text : Drawn → List ℕ
 command_text c = command_line c ++ (10 ∷ [])
 
--- commands one behind another
+-- commands one after another
 abbrev pub commands_text : List Drawn → List ℕ
 commands_text [] = []
 commands_text (c ∷ cs) = command_text c ++ commands_text cs

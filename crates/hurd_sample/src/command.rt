@@ -90,7 +90,7 @@ impl Drawn {
     }
 }
 
-/// Writes words, each behind a space.
+/// Writes words, each after a space.
 fn push_words(text: &mut Vec<u8>, words: &[String]) -> Result<(), AllocError>
     ensures { OnOk result (text.new.items ≡ text.old.items ++ spaced (map string_bytes words.now)) }
 {

@@ -55,7 +55,7 @@ fn drawn(alloc: Global, seed: u64, count: u64) -> Result<Vec<u8>, AllocError> {
     Ok(text)
 }
 
-/// Whether a text is a good list of so many calls. An error is want of memory.
+/// Whether a text is a good list of so many calls. Fails only if memory runs out.
 fn has_calls(alloc: Global, text: &[u8], count: u64) -> Result<bool, AllocError>
     ensures { IfOk result (λ has. has ≡ true → HasCalls count (reading_of text.now)) }
 {

@@ -57,7 +57,7 @@ fn script_of(alloc: Global, commands: &[Drawn]) -> Result<Vec<u8>, AllocError>
     Ok(text)
 }
 
-/// Writes commands, one behind another.
+/// Writes commands, one after another.
 fn push_commands(text: &mut Vec<u8>, commands: &[Drawn]) -> Result<(), AllocError>
     ensures { OnOk result (text.new.items ≡ text.old.items ++ commands_text commands.now) }
 {

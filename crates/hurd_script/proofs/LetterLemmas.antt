@@ -55,7 +55,7 @@ is_flag (b ∷ l ∷ ls) h =
     let e = eqb-true b 45 (and_parts (nat_eq b 45) true h).0 in
     subst (λ (x : ℕ). IsFlag (x ∷ l ∷ ls)) (sym e) (flag l ls)
 
--- flag words in front, and behind them a word that is none
+-- flag words in front, and after them a word that is none
 pub record IsFront (ws : List Text) (node : Text) (words : List Text) : Type 0 where
   pub flags : list_all is_flag_word (leading_flags ws) ≡ true
   pub plain : is_flag_word node ≡ false

@@ -42,7 +42,7 @@ abbrev false_row : ℕ → Row
 false_row letter =
     record { id = letter ∷ []; values = codes "false" ∷ []; count = None; source = Some DefaultValue; reading = reading_by (built_flag letter) }
 
--- what is held behind these letters
+-- what is held after these letters
 abbrev held : Text → Held
 held seen = record { rows = map true_row seen; pending = None; skip = 0 }
 
@@ -152,7 +152,7 @@ flags_pass (w ∷ flags) tail seen h k =
     ∙ (ap (λ (x : Walk). walk_fault shape [] x (flags ++ tail)) turn.0
     ∙ (flags_pass flags tail (seen ++ drop 1 w) p.1 (ap are_known_once e ∙ k) ∙ ap (λ (x : Text). walk_fault shape [] (standing x) tail) e))
 
--- the node, behind flags of these letters
+-- the node, after flags of these letters
 abbrev pending_node : Text → Text → Held
 pending_node seen node = record { rows = map true_row seen; pending = Some (codes "node", node ∷ []); skip = 0 }
 

@@ -69,8 +69,8 @@ abbrev pub settrans_action : Option (SettransFlags × (List ℕ × List (List �
 settrans_action None = action.Usage
 settrans_action (Some (flags, (node, words))) = if is_at_odds flags then action.Usage else with_words (action.Settrans flags node) words
 
--- what these words behind a command's name ask for: flags may stand anywhere among them, but where words of a
--- translator come behind a node, those in front of it are its flags
+-- what these words after a command's name ask for: flags may stand anywhere among them, but where words of a
+-- translator come on a node, those in front of it are its flags
 abbrev pub asked_by : Verb → List (List ℕ) → Action
 asked_by Settrans words = settrans_action (setting_of (letters_of (leading_flags words)) (from_node words))
 asked_by Fsysopts words = fsysopts_action words

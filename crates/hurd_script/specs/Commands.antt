@@ -8,7 +8,7 @@ use Rattle.hurd_script.specs.contracts.command.Verb as verb
 use Rattle.hurd_script.specs.declared.command.Verb.{Verb}
 use Rattle.hurd_script.specs.declared.command.Verb.TheVariants.{Cat, Ls, Put, Mkdir, Rm, Rmdir, Ln, Mv, Chmod, Chown, Settrans, Showtrans, Fsysopts}
 
--- a command: who makes it, what a transcript writes before its output, what it is called, and the words behind that
+-- a command: who makes it, what a transcript writes before its output, what it is called, and the words after that
 pub record CommandLine : Type 0 where
   pub task : ℕ
   pub header : List ℕ
@@ -46,11 +46,11 @@ verb_of word =
     else if bytes_eq word (codes "fsysopts") then Some Fsysopts
     else None
 
--- the line behind its first word, as written, without outer spaces
+-- the line after its first word, as written, without outer spaces
 abbrev pub behind_name : List ℕ → List ℕ
 behind_name line = without_end (skip_spaces (skip_word (skip_spaces line)))
 
--- the line of a transcript that names a command: the user's name, `$ `, and the line behind the name
+-- the line of a transcript that names a command: the user's name, `$ `, and the line after the name
 abbrev pub header_of : List ℕ → List ℕ → List ℕ
 header_of name line = name ++ codes "$ " ++ behind_name line
 
@@ -59,13 +59,13 @@ abbrev pub is_undeclared : List (List ℕ) → List (List ℕ) → Bool
 is_undeclared names [] = false
 is_undeclared names (name ∷ words) = is_none (task_of names name)
 
--- nothing stands behind the name
+-- nothing comes after the name
 abbrev pub has_no_command : List (List ℕ) → Bool
 has_no_command [] = true
 has_no_command (name ∷ []) = true
 has_no_command (name ∷ verb ∷ words) = false
 
--- what stands behind the name is no command
+-- what comes after the name is no command
 abbrev pub has_unknown_command : List (List ℕ) → Bool
 has_unknown_command (name ∷ verb ∷ words) = is_none (verb_of verb)
 has_unknown_command _ = false

@@ -49,7 +49,7 @@ abbrev pub user_flaw : List (List ℕ) → Option Declaration → Option ScriptF
 user_flaw names None = Some UserForm
 user_flaw names (Some user) = ids_flaw (name_flaw names user.name) (declared_ids user)
 
--- why a user line is bad: it stands behind a command, or its user may not be declared
+-- why a user line is bad: it comes after a command, or its user may not be declared
 abbrev pub late_flaw : Standing → Option Declaration → Option ScriptFlaw
 late_flaw s user = if s.begun then Some LateUser else user_flaw s.names user
 

@@ -59,7 +59,7 @@ with_words s line words =
     then with_declared s (declaration_of words)
     else with_command s (command_of s.names line words)
 
--- what stands after a line, unless that is bad
+-- what comes after a line, unless that is bad
 abbrev pub with_line : Standing → List ℕ → Option Standing
 with_line s line =
     if is_skipped line then Some s

@@ -13,11 +13,11 @@ use Rattle.hurd_script.specs.Commands.{CommandLine, command_at, is_bad_command, 
 abbrev pub begun : List (List ℕ) → Bool
 begun lines = list_any is_command_line lines
 
--- a user line behind a command, or a bad one
+-- a user line after a command, or a bad one
 abbrev pub is_user_fault : List (List ℕ) → List ℕ → Bool
 is_user_fault earlier line = begun earlier || is_bad_user (names_before earlier) (words_of line)
 
--- whether a line is bad behind these: one with a bad word, a bad user line, or another that is no command
+-- whether a line is bad after these: one with a bad word, a bad user line, or another that is no command
 abbrev pub is_bad_line : List (List ℕ) → List ℕ → Bool
 is_bad_line earlier line =
     not (is_skipped line)

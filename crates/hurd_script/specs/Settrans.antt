@@ -1,4 +1,4 @@
--- The words of `settrans`: flags, a node, and the words behind it.
+-- The words of `settrans`: flags, a node, and the words after it.
 use Rattle.std.specs.Prelude.{ℕ, ◌==◌, ◌&&◌, ◌||◌, Bool, true, not, List, [], ◌∷◌, Option, Some, None, if◌then◌else◌, codes, drop, map, take}
 use Rattle.std.specs.List.{concat, list_any, prefix_len}
 use Rattle.hurd_script.specs.Flags.{is_flag_word}
@@ -12,11 +12,11 @@ flag_count words = prefix_len is_flag_word words
 abbrev pub leading_flags : List (List ℕ) → List (List ℕ)
 leading_flags words = take (flag_count words) words
 
--- the node, and the words behind it
+-- the node, and the words after it
 abbrev pub from_node : List (List ℕ) → List (List ℕ)
 from_node words = drop (flag_count words) words
 
--- the letters of flag words, behind each one's hyphen
+-- the letters of flag words, after each one's hyphen
 abbrev pub letters_of : List (List ℕ) → List ℕ
 letters_of flags = concat (map (drop 1) flags)
 
@@ -51,7 +51,7 @@ flags_from letters =
 abbrev pub is_at_odds : SettransFlags → Bool
 is_at_odds flags = flags.keep && (flags.active || (flags.goaway || flags.orphan))
 
--- the flags, the node and the words behind it, of flag words in front and the words from the node on
+-- the flags, the node and the words after it, of flag words in front and the words from the node on
 abbrev pub setting_of : List ℕ → List (List ℕ) → Option (SettransFlags × (List ℕ × List (List ℕ)))
 setting_of letters [] = None
 setting_of letters (node ∷ words) = if are_known_once letters then Some (flags_from letters, (node, words)) else None

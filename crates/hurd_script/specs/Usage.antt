@@ -6,7 +6,7 @@ use Rattle.clap.specs.declared.builder.ArgAction.TheVariants.{Set, SetTrue}
 use Rattle.hurd_script.specs.Flags.{is_flag_word}
 use Rattle.hurd_script.specs.declared.settrans.SettransFlags.{SettransFlags}
 
--- a command without clap's own flags, whose words begin behind its name
+-- a command without clap's own flags, whose words begin after its name
 abbrev pub bare_app : Text → App
 bare_app name = on_top (λ top. record top { no_binary_name = true; disable_help_flag = true; disable_version_flag = true }) (new_app name)
 

@@ -153,13 +153,13 @@ impl Command {
     /// A word that begins with `-`, other than `-` itself, is a flag. `ls` takes the flag `-d`, once at most,
     /// `settrans` takes `-a`, `-p`, `-c`, `-x`, `-g`, `-k`, `-f` and `-o`, also joined as in `-ac`, each once at most
     /// and `-k` beside none of `-a`, `-g` and `-o`; no other command takes one. Flags may stand anywhere among the
-    /// words; those of `settrans` stand in front of its node, and the words behind the nodes of `settrans` and
+    /// words; those of `settrans` stand in front of its node, and the words after the nodes of `settrans` and
     /// `fsysopts` are taken as they stand, at most 32 of 4,096 bytes in all.
     ///
     /// `cat`, `ls`, `mkdir`, `rm`, `rmdir` and `showtrans` take one node, `put` a node and a text, `ln` and `mv` two
     /// nodes, `chmod` a mode and a node, `chown` an owner, a group and a node. A mode is one to six octal digits of
     /// known bits, an owner or a group a decimal number below 2 to the 32nd; zeros may lead, and no sign. Any other
-    /// words are `Usage`. An error is want of memory.
+    /// words are `Usage`. Fails only if memory runs out.
     pub fn action(&self, alloc: Global) -> Result<Action, AllocError>
         ensures { IfOk result (λ action. action ≡ action_of self.now) }
     {

@@ -11,7 +11,7 @@ pub enum ScriptFlaw {
     Length,
     /// A word has a byte or a backslash that no word has.
     Word,
-    /// It is a user line behind a command.
+    /// It is a user line after a command.
     LateUser,
     /// It is a user line of another form than `user NAME UIDS GIDS`.
     UserForm,
@@ -25,9 +25,9 @@ pub enum ScriptFlaw {
     UserIds,
     /// Nobody has the name that it begins with.
     NoUser,
-    /// Nothing stands behind the name.
+    /// Nothing comes after the name.
     NoCommand,
-    /// What stands behind the name is no command.
+    /// What comes after the name is no command.
     OtherCommand,
 }
 

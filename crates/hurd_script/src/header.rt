@@ -6,7 +6,7 @@ use hurd_creds::Bytes;
 use hurd_words::lines::{skip_spaces, skip_word, without_end};
 use std::alloc::{AllocError, Global};
 
-/// The line of a transcript that names a command: the user's name, `$ `, and the line behind the name.
+/// The line of a transcript that names a command: the user's name, `$ `, and the line after the name.
 pub fn header(alloc: Global, name: &str, line: &[u8]) -> Result<Bytes, AllocError>
     ensures { IfOk result (λ header. header ≡ header_of name.now line.now) }
 {
@@ -16,7 +16,7 @@ pub fn header(alloc: Global, name: &str, line: &[u8]) -> Result<Bytes, AllocErro
     Ok(Bytes::new(header))
 }
 
-/// The line behind its first word, without outer spaces.
+/// The line after its first word, without outer spaces.
 fn behind_name(line: &[u8]) -> &[u8]
     ensures { result.now ≡ behind_name line.now }
 {

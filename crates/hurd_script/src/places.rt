@@ -10,7 +10,7 @@ use std::alloc::{AllocError, Global};
 pub struct EntryPlace {
     /// The path up to and with its last slash, or the empty path.
     pub directory: Bytes,
-    /// The name behind that; the empty name where the path is empty or of slashes alone.
+    /// The name after that; the empty name where the path is empty or of slashes alone.
     pub name: Bytes,
 }
 

@@ -280,7 +280,7 @@ fn fault_at(fault: LineFault, line: u64) -> ScriptFault
 /// Reads a script: its users, root first, and its commands.
 ///
 /// Errors: `Bad` at line 0 for a script of more than 1,048,576 bytes; else `Bad` at its first bad line,
-/// one with a byte or a backslash that no word has, a user line behind a command or of another form, or
+/// one with a byte or a backslash that no word has, a user line after a command or of another form, or
 /// another line that doesn't begin with a user's name and a command; with the first of these tests that it
 /// fails. `Memory` where memory is refused.
 ///

@@ -56,7 +56,7 @@ impl SettransFlags {
     }
 }
 
-/// The flags of a command line, its node, and the words behind that.
+/// The flags of a command line, its node, and the words after that.
 #[derive(Clone, Copy)]
 pub struct Setting<'a> {
     pub flags: SettransFlags,
@@ -161,7 +161,7 @@ fn flags_found(matches: &ArgMatches) -> SettransFlags
     }
 }
 
-/// The flags, the node and the words behind it, where there is a node and the flags are good.
+/// The flags, the node and the words after it, where there is a node and the flags are good.
 /// Clap is asked where a flag stands in front.
 pub fn setting_of<'a>(alloc: Global, words: &'a [String]) -> Result<Option<Setting<'a>>, AllocError>
     ensures { let ws = map string_bytes words.entry.now in

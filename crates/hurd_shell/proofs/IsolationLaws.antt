@@ -50,7 +50,7 @@ played_told make t next (asks words k) w = played_told make t next (k (make word
 abbrev pub part_at : Maker → CommandLine → World → Part
 part_at make c w = part_by c (command_part make c w) (run w (command_calls make c w))
 
--- the first part that is told, and those of the commands behind
+-- the first part that is told, and those of the commands after
 pub first_told : (make : Maker) (c : CommandLine) (cs : List CommandLine) (w : World)
     → told_by make (dialogue (c ∷ cs) w) ≡ part_at make c w ∷ told_by make (dialogue cs (run w (command_calls make c w)))
 unfolding dialogue told_by

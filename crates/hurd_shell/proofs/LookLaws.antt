@@ -29,7 +29,7 @@ releasing_more (q ∷ held) port p = ap (closing q) (releasing_more held port p)
 pub holding : {new : List ℕ} (held : List ℕ) (port : ℕ) (p : Prog ℕ) → new ≡ held ++ port ∷ [] → releasing new p ≡ releasing held (closing port p)
 holding held port p same = rw same (releasing_more held port p)
 
--- a program goes on as it does where ports are given up behind it
+-- a program goes on as it does where ports are given up after it
 pub held_leads : {t : ℕ} {p q : Prog ℕ} {w x : State} (held : List ℕ) → LeadsTo t p w q x → LeadsTo t (releasing held p) w (releasing held q) x
 unfolding releasing
 held_leads [] l = l
@@ -142,7 +142,7 @@ pub give_none : {t : ℕ} {w : State} (p : Prog ℕ) → LeadsTo t (releasing []
 unfolding releasing
 give_none p = leads_refl _ _ _
 
--- a program that asks for a server asks for it too where ports are given up behind it
+-- a program that asks for a server asks for it too where ports are given up after it
 pub releasing_asks : (held : List ℕ) (words : List (List ℕ)) (k : Option Meaning → Prog ℕ) → releasing held (asks words k) ≡ asks words (λ server. releasing held (k server))
 unfolding releasing tried
 releasing_asks [] words k = refl

@@ -1,4 +1,4 @@
--- What scripts tell a set of tasks that gives its commands in worlds that look the same to it but for names.
+-- What scripts tell a set of tasks that gives its commands in worlds that look the same to it except for names.
 use Rattle.std.proofs.Common.{◌≡◌, ◌∙◌, ℕ, Bool, true, List, ◌∷◌, Result, sym, refl, ap, ap₂, subst}
 use Rattle.hurd_creds.specs.declared.errno.Errno.{Errno}
 use Rattle.hurd_machine.specs.Calls.{Reply}

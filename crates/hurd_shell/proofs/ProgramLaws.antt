@@ -1,4 +1,4 @@
--- Programs, one behind another.
+-- Programs, one after another.
 use Rattle.std.proofs.Common.{◌≡◌, ℕ, List, Option, Result, Ok, Err, refl, sym, ◌∙◌, ap}
 use Rattle.std.specs.Result.{IsErr, IsErrAnd}
 use Rattle.hurd_creds.specs.declared.errno.Errno.{Errno}
@@ -31,14 +31,14 @@ pub go-asks : {A : Type 0} (t : ℕ) (words : List (List ℕ)) (k : Option Meani
 unfolding go
 go-asks t words k w = refl
 
--- what is behind a program goes on where that program stops
+-- what is after a program goes on where that program stops
 pub tried_goes : {A B : Type 0} (t : ℕ) (k : Result A Errno → Prog B) (p : Prog A) (w : World) → go t (tried p k) w ≡ go t (tried (go t p w).rest k) (go t p w).world
 unfolding go tried
 tried_goes t k (gives r) w = refl
 tried_goes t k (calls c j) w = tried_goes t k (j (reply_of w t c)) (after w t c)
 tried_goes t k (asks words j) w = refl
 
--- a program that comes to another comes to it in front of what is behind it
+-- a program that comes to another comes to it in front of what is after it
 pub tried_leads : {A B : Type 0} {t : ℕ} {p q : Prog A} {w x : State} (k : Result A Errno → Prog B) → LeadsTo t p w q x → LeadsTo t (tried p k) w (tried q k) x
 tried_leads {A} {B} {t} {p} {q} {w} {x} k l = record {
   goes = tried_goes t k p w.world ∙ (ap (λ (z : Pause A). go t (tried z.rest k) z.world) l.goes ∙ sym (tried_goes t k q x.world));

@@ -52,7 +52,7 @@ played_gives : {A : Type 0} (t : ℕ) (r : Result A Errno) (w : World) (next : R
 unfolding played
 played_gives t r w next = refl
 
--- what is told behind a command
+-- what is told after a command
 abbrev behind : CommandLine → (World → Dialogue) → Result Printed Errno → World → Dialogue
 behind c next r x = tells (part_by c (answer_to c r) x) (next x)
 
@@ -93,7 +93,7 @@ got_here [] k c within here = absurd (omega arith)
 got_here (d ∷ cs) zero c within here = ap Some (sym here)
 got_here (d ∷ cs) (suc k) c within here = got_here cs k c (omega arith) here
 
--- the command that a session is at, and those behind it
+-- the command that a session is at, and those after it
 pub at_command : (cs : List CommandLine) (k : ℕ) (c : CommandLine) → k < length cs → c ≡ get_or cs k c → drop k cs ≡ c ∷ drop (k + 1) cs
 at_command cs k c within here = from_here cs k c within here ∙ ap (λ (n : ℕ). c ∷ drop n cs) (sym (one_more k))
 
@@ -113,11 +113,11 @@ pub turn_left : (at : Phase) (cs : List CommandLine) (k : ℕ) (c : CommandLine)
     → left_of at (drop k cs) w ≡ turn_on c (dialogue (drop (k + 1) cs)) turn x
 turn_left at cs k c w x turn within here same = ap (λ (ds : List CommandLine). left_of at ds w) (at_command cs k c within here) ∙ same (dialogue (drop (k + 1) cs))
 
--- a part is told, and the commands behind are left
+-- a part is told, and the commands after are left
 pub part_told : (c : CommandLine) (cs : List CommandLine) (answer : Answer) (x : World) → turn_on c (dialogue cs) (Told answer) x ≡ tells (part_by c answer x) (left_of phase.Between cs x)
 part_told c cs answer x = ap (tells (part_by c answer x)) (sym (between cs x))
 
--- a server is waited for, and the command is left with those behind
+-- a server is waited for, and the command is left with those after
 pub waits_left : (cs : List CommandLine) (k : ℕ) (c : CommandLine) (waiting : Waiting) (x : World) → k < length cs → c ≡ get_or cs k c
     → turn_on c (dialogue (drop (k + 1) cs)) (Waits waiting) x ≡ left_of (phase.Waiting waiting) (drop k cs) x
 waits_left cs k c waiting x within here = ap (λ (ds : List CommandLine). left_of (phase.Waiting waiting) ds x) (sym (at_command cs k c within here))

@@ -69,7 +69,7 @@ unfolding bind
 refused_inside {p = p} port k (Refused e) d refused lost = leads_reaches (tried_leads _ (tried_ends {p = p} {r = Err e} (on_ok k) d.reaches)) (refused e refl)
 refused_inside {next = next} port k Memory d refused lost = rw (lost refl) (record { reaches = tt })
 
--- what is behind an opened node goes on
+-- what is after an opened node goes on
 pub goes_on : {A B D : Type 0} {t : ℕ} {next : D → Prog B} {r : Result D Stop} {w x : State} (a : A) (k : A → Prog B) → Reaches t (k a) w next r x → Reaches t (bind (gives (Ok a)) k) w next r x
 unfolding bind tried
 goes_on a k d = d

@@ -62,13 +62,13 @@ misused = record { output = Text []; ending = ending.Usage }
 abbrev pub silent : Prog (Unit {0}) → Prog Printed
 silent p = bind p (λ u. gives (Ok (prints [])))
 
--- what a read gave: a refusal, the end, or bytes behind which there may be more
+-- what a read gave: a refusal, the end, or bytes after which there may be more
 abbrev pub cat_read : List ℕ → (List ℕ → Prog Printed) → Result (List ℕ) Errno → Prog Printed
 cat_read output more (Err e) = gives (Ok (refuses output e))
 cat_read output more (Ok []) = gives (Ok (prints output))
 cat_read output more (Ok (b ∷ bs)) = more (output ++ b ∷ bs)
 
--- with so many reads left, a file's bytes from the cursor on, behind those that were read
+-- with so many reads left, a file's bytes from the cursor on, after those that were read
 unfoldable pub cat_from : ℕ → ℕ → List ℕ → Prog Printed
 cat_from zero p output = gives (Ok (prints output))
 cat_from (suc reads) p output = tried (made (Plain (IoRead p most_read at_cursor)) data_of) (cat_read output (cat_from reads p))

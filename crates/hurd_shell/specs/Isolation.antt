@@ -73,7 +73,7 @@ UnmovedCommands S make (c ∷ cs) w =
 abbrev pub OnePartEach : Type 0
 OnePartEach = (make : Maker) (cs : List CommandLine) (w : World) → length (parts_by make (dialogue cs w)) ≡ length cs
 
--- of commands behind others is told what is told of them in the world after those
+-- of commands after others is told what is told of them in the world after those
 abbrev pub ToldInTurn : Type 0
 ToldInTurn =
     (make : Maker) (cs ds : List CommandLine) (w : World)
@@ -118,7 +118,7 @@ IsolatedByView =
     → (parts_to S cs (parts_by make (dialogue cs v)) ≡ parts_to S ds (parts_by make (dialogue ds w)))
     × SameView S (world_after make cs v) (world_after make ds w)
 
--- and so what S is told from some line on, where behind it each command of the others leaves the view of S as it was, is what it is
+-- and so what S is told from some line on, where after it each command of the others leaves the view of S as it was, is what it is
 -- told there without these commands
 abbrev pub AsWithoutOthers : Type 0
 AsWithoutOthers =

@@ -66,7 +66,7 @@ Opener = ℕ → List ℕ → Prog ℕ
 abbrev pub own_port : List ℕ → Option ℕ
 own_port digits = if nat_le (length digits) 20 then long_number_of digits else None
 
--- what is behind `fd/`: a port of the task's own, and from the first slash on what is opened at it
+-- what is after `fd/`: a port of the task's own, and from the first slash on what is opened at it
 abbrev pub own_place : List ℕ → Option (ℕ × List ℕ)
 own_place bytes =
     let slash = position_or_len is_slash_byte bytes in option_map (λ port. (port, drop slash bytes)) (own_port (take slash bytes))

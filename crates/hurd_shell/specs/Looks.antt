@@ -12,13 +12,13 @@ use Rattle.hurd_world.specs.Boot.{first_world}
 use Rattle.hurd_shell.specs.Isolation.{command_calls, command_part, commands_by, parts_to, worlds_of}
 use Rattle.hurd_shell.specs.Transcript.{Maker, dialogue, dialogue_of, parts_by}
 
--- one command of S, made in two worlds that look the same to it but for names: it is told the same, and they look so afterwards, by the same names
+-- one command of S, made in two worlds that look the same to it except for names: it is told the same, and they look so afterwards, by the same names
 abbrev pub OwnCommandFromLooks : Type 0
 OwnCommandFromLooks =
     (S : ℕ → Bool) (f : OtherNames) (make : Maker) (v w : World) (c : CommandLine) → Sound v → Sound w → S c.task ≡ true → LooksLike S f v w
     → (command_part make c v ≡ command_part make c w) × LooksLike S f (run v (command_calls make c v)) (run w (command_calls make c w))
 
--- from any two worlds, where S has the same commands, and gives each of them in worlds that look the same to it but for names, whatever
+-- from any two worlds, where S has the same commands, and gives each of them in worlds that look the same to it except for names, whatever
 -- the others' commands did before it: S is told the same
 abbrev pub CommandsByLooks : Type 0
 CommandsByLooks =

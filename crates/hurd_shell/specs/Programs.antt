@@ -105,6 +105,6 @@ started_of r = started (set_of r)
 abbrev pub unread : Reply → Result (Unit {0}) Errno
 unread r = Ok tt
 
--- a program, and behind its end the port is given up
+-- a program, and after its end the port is given up
 abbrev pub closing : {A : Type 0} → ℕ → Prog A → Prog A
 closing p q = tried q (λ r. bind (made (Plain (PortDeallocate p)) unread) (λ u. gives r))

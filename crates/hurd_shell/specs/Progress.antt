@@ -46,7 +46,7 @@ pub record DoesAll {A : Type 0} (t : ℕ) (p : Prog A) (w : State) (r : Result A
 abbrev pub Ran : {S A : Type 0} → (S → Meaning) → ℕ → Prog A → Whole S → Result A Stop → Whole S → Type 0
 Ran f t p old r new = DoesAll t p (state_of f old) r (state_of f new)
 
--- a program, and behind its end these ports are given up, the last first
+-- a program, and after its end these ports are given up, the last first
 unfoldable pub releasing : List ℕ → Prog ℕ → Prog ℕ
 releasing [] p = p
 releasing (q ∷ qs) p = closing q (releasing qs p)

@@ -107,7 +107,7 @@ pub record Gives {S : Type 0} (f : S → Meaning) (old : View S) (answer : Answe
   pub waits : waits_for new ≡ false
   pub given : new.given ≡ old.given + 1
 
--- what a session gives its caller is the head of what it has to tell: a part, behind which the rest is left; the words of the server
+-- what a session gives its caller is the head of what it has to tell: a part, after which the rest is left; the words of the server
 -- that is asked for, again at each call until that is answered; or the end. Memory may be refused, and then for good
 abbrev pub Tells : {S : Type 0} → (S → Meaning) → View S → Result Want SessionFault → View S → Type 0
 Tells f old (Ok (Output answer)) new = Gives f old answer new

@@ -22,7 +22,7 @@ turn_of c (Ok (progress.Waits w)) = Some (Waits w)
 turn_of c (Err (Refused e)) = Some (Told (answer_to c (Err e)))
 turn_of c (Err Memory) = None
 
--- what is left to tell after a turn, where this is told behind the command
+-- what is left to tell after a turn, where this is told after the command
 abbrev pub turn_on : CommandLine → (World → Dialogue) → Turn → World → Dialogue
 turn_on c next (Told answer) x = tells (part_by c answer x) (next x)
 turn_on c next (Waits w) x = played c.task (waiting_on w) x (λ r y. tells (part_by c (answer_to c r) y) (next y))

@@ -2,7 +2,7 @@
 ghost use Rattle.hurd_shell.specs.Isolation.{AsWithoutOthers, CommandsSideBySide, IsolatedByView, IsolatedCommands, IsolatedScripts, OnePartEach, OwnCommandFromView, ScriptsSideBySide, ToldInTurn};
 ghost use Rattle.hurd_shell.specs.Looks.{CommandsByLooks, OwnCommandFromLooks, ScriptsByLooks};
 
-/// A law: each command has one part in what is told, and what is told of commands behind others is what is told of them in the
+/// A law: each command has one part in what is told, and what is told of commands after others is what is told of them in the
 /// world after those.
 pub fn scripts_are_told_in_turn()
     ensures parts { OnePartEach }
@@ -30,7 +30,7 @@ pub fn scripts_side_by_side()
     ensures scripts { ScriptsSideBySide }
 {}
 
-/// A law: the same where each of these commands is given in worlds that look the same but for internal names of what others made, which count
+/// A law: the same where each of these commands is given in worlds that look the same except for internal names of what others made, which count
 /// what these made unseen; and what one command is told, and leaves, goes by such looks alone.
 pub fn scripts_side_by_side_renamed()
     ensures command { OwnCommandFromLooks }
@@ -38,7 +38,7 @@ pub fn scripts_side_by_side_renamed()
     ensures scripts { ScriptsByLooks }
 {}
 
-/// A law: what a command of some tasks is told, and what they see behind it, depends on what they see before it alone. So where two scripts
+/// A law: what a command of some tasks is told, and what they see after it, depends on what they see before it alone. So where two scripts
 /// tell them something else, they saw something else before that command.
 pub fn own_commands_go_by_what_is_seen()
     ensures { OwnCommandFromView }

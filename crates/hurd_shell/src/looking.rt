@@ -110,7 +110,7 @@ fn start_of(path: &[u8]) -> u64
     }
 }
 
-/// Holds a port until the end, behind those that are held.
+/// Holds a port until the end, after those that are held.
 fn hold(held: &mut Vec<u64>, port: u64) -> Result<(), AllocError>
     ensures { OnOk result (held.new.items ≡ held.old.items ++ port ∷ []) }
 {
@@ -172,7 +172,7 @@ fn own_port(digits: &[u8]) -> Option<u64>
     long_number(digits)
 }
 
-/// The port of the task's own that stands behind `fd/`, and what is opened at it.
+/// The port of the task's own that comes after `fd/`, and what is opened at it.
 fn own_place(bytes: &[u8]) -> Option<(u64, &[u8])>
     ensures { option_map (λ place. (place.0, place.1.now)) result ≡ written.own_place bytes.now }
 {
@@ -180,7 +180,7 @@ fn own_place(bytes: &[u8]) -> Option<(u64, &[u8])>
     Some((own_port(digits)?, name))
 }
 
-/// What stands behind `fd/` in a name, if it begins so.
+/// What comes after `fd/` in a name, if it begins so.
 fn behind_fd(name: &[u8]) -> Option<&[u8]>
     ensures { option_map (λ rest. rest.now) result ≡ behind (codes "fd/") name.now }
 {

@@ -60,7 +60,7 @@ impl<S: Server> Model for Session<S> {
     ghost view = { λ s. record { world = s.world; commands = s.commands.items; given = s.given; phase = s.phase } };
 }
 
-/// Goes on with a command, up to its end or to a server that it waits for. An error is want of memory.
+/// Goes on with a command, up to its end or to a server that it waits for. Fails only if memory runs out.
 fn take_turn<S: Server>(
     world: &mut World<S>,
     alloc: Global,
@@ -84,7 +84,7 @@ fn take_turn<S: Server>(
     }
 }
 
-/// What the caller is given after a turn, how many commands are made then, and how far the next one is. An error is want of memory.
+/// What the caller is given after a turn, how many commands are made then, and how far the next one is. Fails only if memory runs out.
 fn stand(
     alloc: Global,
     turn: Turn,
@@ -182,7 +182,7 @@ impl<S: Server> Session<S> {
         self.given
     }
 
-    /// The task whose command is next, or is on its way; none behind the last.
+    /// The task whose command is next, or is on its way; none after the last.
     pub fn task(&self) -> Option<TaskId>
         ensures { option_map (λ (t : TaskId). t.0) result ≡ next_task self.now }
     {

@@ -31,7 +31,7 @@ found_one n y = or_left (same_name n n) false (same_name-itself n)
 
 -- what is gathered, one list after another
 
--- what was there stays, and more may come behind it
+-- what was there stays, and more may come after it
 more_grown : (n : Name) (y : Why) (es : Entries) → (more : Entries) × (found_more n y es ≡ es ++ more)
 more_grown n y es = elim (cases_Bool (is_found n es)) [ inl there ↦ ([], rw there (sym (append-nil es))) | inr absent ↦ ((n, y) ∷ [], rw absent refl) ]
 

@@ -147,7 +147,7 @@ module _ (w : World) (tasks : List TaskId) (ids : IdSets) (es : Entries) (r : Re
         | inr held ↦ (by_seed n y held).1
       ]
 
-  -- what the first round found has a reason, behind the node that it was found from
+  -- what the first round found has a reason, after the node that it was found from
   plain_why : (i : ℕ) (n : Name) (y : Why) → slice_get es i ≡ Some (n, y) → IsAmong (n, y) all.plain → IsWhy S w n y × IsBefore (found_from y) (take i es)
   plain_why i n y at here = elim (follows_said (of_plain (nodes_of w) ids) root all.plain all.first place.0 n y place.2) [
     | inl seed ↦ let it = by_root n y seed in (it.0, subst (λ (o : Option Name). IsBefore o (take i es)) (sym it.2) tt)

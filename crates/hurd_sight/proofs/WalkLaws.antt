@@ -1,10 +1,10 @@
--- A walk over a list, one thing after another: what holds of how it was before some of them and is behind them.
+-- A walk over a list, one thing after another: what holds of how it was before some of them and is after them.
 use Rattle.std.proofs.Common.{◌≡◌, ◌∙◌, sym, ap, subst, ℕ, ◌+◌, ◌<◌, ◌≤◌, List, [], ◌∷◌, ◌++◌, take, take_all, length, get_or, append-nil}
 use Rattle.std.specs.List.{flat_map}
 use Rattle.std.proofs.lemmas.List.{take_more}
 use Rattle.std.proofs.lemmas.List.Concat.{flat_map-append}
 
--- what holds behind some things, and of one step, holds behind one thing more
+-- what holds after some things, and of one step, holds after one thing more
 pub record Walk {X A : Type 0} (Over : List X → A → A → Type 0) (Step : X → A → A → Type 0) : Type 0 where
   pub more : (xs : List X) (x : X) (a b c : A) → Over xs a b → Step x b c → Over (xs ++ x ∷ []) a c
 

@@ -190,7 +190,7 @@ abbrev pub FoundIsOne : Type 0
 FoundIsOne =
     (h : NodeState) (ts : List Task) (ids : IdSets) (tasks : List TaskId) (es fs : List (Name × Why)) → FoundAll h ts ids tasks es → FoundAll h ts ids tasks fs → es ≡ fs
 
--- the nodes that S sees, and no others, each with a reason that holds, and behind the node from which it was found
+-- the nodes that S sees, and no others, each with a reason that holds, and after the node from which it was found
 pub record IsSight (S : ℕ → Bool) (w : World) (es : List (Name × Why)) : Type 0 where
   pub exact : (n : Name) → (is_found n es ≡ true) ↔ Seen S w n
   pub why : (i : ℕ) (n : Name) (y : Why) → slice_get es i ≡ Some (n, y) → IsWhy S w n y × IsBefore (found_from y) (take i es)

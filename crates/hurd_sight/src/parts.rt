@@ -14,7 +14,7 @@ pub enum SeenPart {
     Ends(NodeName),
     /// An open, and how many rights hold it.
     Open(OpenName),
-    /// A server, but for its text, unless that is a link's or a tree's.
+    /// A server, except for its text, unless that is a link's or a tree's.
     Options(ServerName),
     /// The text of a server.
     Text(ServerName),

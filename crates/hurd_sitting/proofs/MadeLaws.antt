@@ -12,7 +12,7 @@ use Rattle.hurd_sitting.specs.Watching.{SeenBy}
 use Rattle.hurd_sitting.proofs.PartLaws.{as_one, none_behind, one_behind}
 use Rattle.hurd_sitting.proofs.TellLaws.{none_tells, tells_one}
 
--- some first calls of a list were made in world w and told, world x is behind them, and what is kept of what is seen is that world's
+-- some first calls of a list were made in world w and told, world x is after them, and what is kept of what is seen is that world's
 pub record Made (who : Option Learners) (calls : List Listed) (w : World) (before now : List ℕ) (left : List Listed) (x : World) (kept : Option View) : Type 0 where
   pub first : List Listed
   pub split : calls ≡ first ++ left

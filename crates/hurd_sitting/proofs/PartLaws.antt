@@ -12,7 +12,7 @@ use Rattle.hurd_calls.specs.Making.{after_call, answer_to, parts_of}
 use Rattle.hurd_sitting.specs.Laws.{AreOne}
 use Rattle.hurd_sitting.specs.Sittings.{behind, told_by}
 
--- the parts of the first, and then those of the others in the world behind
+-- the parts of the first, and then those of the others in the world after
 parts_apart : (cs ds : List Listed) (w : World) → parts_of (cs ++ ds) w ≡ parts_of cs w ++ parts_of ds (behind cs w)
 unfolding parts_of world_behind
 parts_apart [] ds w = refl

@@ -104,7 +104,7 @@ first_read n u t line lines e = go (with_line u line) refl e
 none_read : (n : ℕ) (u t : Standing) → read_from n u [] ≡ Ok t → u ≡ t
 none_read n u t e = cc (read_ended n u)
 
--- other lines behind them are read where these were
+-- other lines after them are read where these were
 read_apart : (n : ℕ) (u t : Standing) (ls ms : List (List ℕ)) → read_from n u ls ≡ Ok t → (m : ℕ) × (read_from n u (ls ++ ms) ≡ read_from m t ms)
 read_apart n u t [] ms e = (n, ap (λ (s : Standing). read_from n s ms) (none_read n u t e))
 read_apart n u t (line ∷ ls) ms e =

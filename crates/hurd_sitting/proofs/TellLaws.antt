@@ -55,7 +55,7 @@ module _ (l : Learners) where
         ap (λ (bs : List ℕ). here ++ bs) both.1 ∙ sym (append_assoc here (told_text ps more) (told_text qs ys)),
       )
 
--- what calls tell, and then others in the world behind them, all of them tell as one list
+-- what calls tell, and then others in the world after them, all of them tell as one list
 pub tells_one : (who : Option Learners) (first then : List Listed) (w : World) (text more : List ℕ) → Tells who first w text → Tells who then (behind first w) more
     → Tells who (first ++ then) w (text ++ more)
 tells_one None first then w text more tells next =

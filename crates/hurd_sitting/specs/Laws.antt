@@ -6,7 +6,7 @@ use Rattle.hurd_machine.specs.World.{World}
 use Rattle.hurd_calls.specs.Making.{parts_of}
 use Rattle.hurd_sitting.specs.Sittings.{Begins, Makes, behind, told_by}
 
--- calls, and then others behind them, have the parts that all of them have as one list, tell the same, and leave the same world
+-- calls, and then others after them, have the parts that all of them have as one list, tell the same, and leave the same world
 pub record AreOne (first then : List Listed) (w : World) : Type 0 where
   pub parts : parts_of (first ++ then) w ≡ parts_of first w ++ parts_of then (behind first w)
   pub tells : told_by (first ++ then) w ≡ told_by first w ++ told_by then (behind first w)

@@ -22,7 +22,7 @@ use Rattle.hurd_teaching.specs.declared.learners.Learners.{Learners}
 abbrev pub told_by : List Listed → World → List ℕ
 told_by calls w = joined (parts_of calls w)
 
--- the world behind them
+-- the world after them
 abbrev pub behind : List Listed → World → World
 behind calls w = world_behind w (parts_of calls w)
 
@@ -36,7 +36,7 @@ Tells None calls w text = text ≡ told_by calls w
 Tells (Some learners) calls w text =
     (said : List Said) × LessonsOf learners.tasks.items (at_once learners) 0 w (parts_of calls w) said × (text ≡ told_text (parts_of calls w) said)
 
--- behind what was told before stands what calls tell
+-- after what was told before stands what calls tell
 abbrev pub Adds : Option Learners → List Listed → World → List ℕ → List ℕ → Type 0
 Adds learners calls w before told = (text : List ℕ) × Tells learners calls w text × (told ≡ before ++ text)
 
@@ -44,12 +44,12 @@ Adds learners calls w before told = (text : List ℕ) × Tells learners calls w 
 abbrev pub listed : List (ListedCall ServerBox) → List Listed
 listed calls = map (listed_by box_meaning) calls
 
--- world x is behind some first calls and the next of the rest
+-- world x is after some first calls and the next of the rest
 abbrev pub NextMade : List Listed → List Listed → World → World → Type 0
 NextMade first [] w x = ⊥
 NextMade first (c ∷ more) w x = x ≡ behind (first ++ c ∷ []) w
 
--- behind what was told before stands what some first calls tell that were made in world w; world x is behind these, or also behind the next, which told nothing
+-- after what was told before stands what some first calls tell that were made in world w; world x is after these, or also after the next, which told nothing
 pub record SomeMade (learners : Option Learners) (calls : List Listed) (w : World) (before told : List ℕ) (x : World) : Type 0 where
   pub first : List Listed
   pub rest : List Listed
@@ -57,7 +57,7 @@ pub record SomeMade (learners : Option Learners) (calls : List Listed) (w : Worl
   pub tells : Adds learners first w before told
   pub leaves : (x ≡ behind first w) ⊎ NextMade first rest w x
 
--- a list begins a sitting: its calls were made over an empty tree in memory, this was told, and this world is behind them
+-- a list begins a sitting: its calls were made over an empty tree in memory, this was told, and this world is after them
 pub record Begins (list told : List ℕ) (world : World) : Type 0 where
   pub said : Standing
   pub reads : reading_of list ≡ Ok said
@@ -75,7 +75,7 @@ abbrev pub calls_in : Result Standing BadLine → Result (List Listed) ℕ
 calls_in (Ok said) = without_tasks said.tasks said.calls
 calls_in (Err bad) = Err bad.line
 
--- a text's calls were made in world w, this was told, and world x is behind them
+-- a text's calls were made in world w, this was told, and world x is after them
 pub record Makes (learners : Option Learners) (text : List ℕ) (w : World) (told : List ℕ) (x : World) : Type 0 where
   pub calls : List Listed
   pub reads : calls_in (reading_of text) ≡ Ok calls

@@ -7,7 +7,7 @@
 //! `Sitting::watch` names tasks. From then on `make` adds, after each call by others, what these learn from it, as `hurd learn --calls` prints it, without its last line.
 //!
 //! Texts that are made one after another tell what one list of their calls tells, and leave the same world: `calls_are_one` says it of calls, `texts_are_one`
-//! of the bytes of a list and of a text behind it.
+//! of the bytes of a list and of a text after it.
 #![tactic(auto)]
 
 mod laws;

@@ -33,7 +33,7 @@ fn made(
     answer(world, alloc, listed, server)
 }
 
-/// Makes a call, and gives its paragraph: what is printed of it, and what these learn by it where it is another's. An error is want of memory: then the call
+/// Makes a call, and gives its paragraph: what is printed of it, and what these learn by it where it is another's. Fails only if memory runs out: then the call
 /// was made, or nothing changed.
 fn paragraph_of(
     world: &mut World<ServerBox>,
@@ -57,7 +57,7 @@ fn paragraph_of(
     paragraph(alloc, &answer, &said, &shown)
 }
 
-/// Makes a call, and gives what it tells: its paragraph where some are told what they learn. An error is want of memory: then the call was made, or nothing
+/// Makes a call, and gives what it tells: its paragraph where some are told what they learn. Fails only if memory runs out: then the call was made, or nothing
 /// changed.
 fn text_of(
     world: &mut World<ServerBox>,
@@ -79,7 +79,7 @@ fn text_of(
     }
 }
 
-/// Makes calls one after another, and adds what each tells. An error is want of memory: then some first calls were made and told, and perhaps the next was
+/// Makes calls one after another, and adds what each tells. Fails only if memory runs out: then some first calls were made and told, and perhaps the next was
 /// made.
 pub(crate) fn make_all(
     world: &mut World<ServerBox>,

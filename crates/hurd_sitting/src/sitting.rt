@@ -99,7 +99,7 @@ impl Sitting {
         self.told.as_slice()
     }
 
-    /// The world behind all texts.
+    /// The world after all texts.
     pub fn world(&self) -> &World<ServerBox>
         ensures { world_of box_meaning result.now ≡ world_in self.now }
     {

@@ -26,7 +26,7 @@ shows_is_one : (tasks : List TaskId) (sees : List ℕ) (asked : Bool) (x : World
 shows_is_one tasks sees true x s t (a, in_a, is_s) (b, in_b, is_t) = is_s ∙ (seen_is_one tasks sees x a b in_a in_b ∙ sym is_t)
 shows_is_one tasks sees false x s t is_s is_t = is_s ∙ sym is_t
 
--- of first parts, with what is said behind first ones, a front is printed of what is printed of all
+-- of first parts, with what is said after first ones, a front is printed of what is printed of all
 printed_front : (ps qs : List Answer) (xs ys : List Said) → IsFront (printed ps xs) (printed (ps ++ qs) (xs ++ ys))
 printed_front [] qs xs ys = (printed qs (xs ++ ys), refl)
 printed_front (p ∷ ps) qs [] ys = (printed (p ∷ (ps ++ qs)) ys, refl)
@@ -35,7 +35,7 @@ printed_front (p ∷ ps) qs (x ∷ xs) ys =
     let here : List ℕ = paragraph p (x.text ++ x.shown) in
     (it.0, ap (λ (u : List ℕ). here ++ u) it.1 ∙ sym (append_assoc here (printed ps xs) it.0))
 
--- what is said behind some parts begins what is said behind them and others that follow
+-- what is said after some parts begins what is said after them and others that follow
 lessons_front : (tasks : List TaskId) (who : Speech) (n : ℕ) (w : World) (ps more : List Part) (s t : List Said) → LessonsOf tasks who n w ps s → LessonsOf tasks who n w (ps ++ more) t
     → (rest : List Said) × (t ≡ s ++ rest)
 lessons_front tasks who n w [] more s t none y = (t, ap (λ (u : List Said). u ++ t) (sym none))

@@ -1,4 +1,4 @@
--- What is said behind what was done, and what is shown then, is sentences; and what counts.
+-- What is said after what was done, and what is shown then, is sentences; and what counts.
 use Rattle.std.proofs.Common.{◌≡◌, refl, sym, subst, ℕ, ◌+◌, List, [], ◌∷◌, ◌++◌, Bool, not, true, false}
 use Rattle.std.specs.Prelude.{if◌then◌else◌}
 use Rattle.hurd_creds.specs.declared.name.TaskId.{TaskId}
@@ -27,7 +27,7 @@ pub counts_loud : {X : Type 0} (b : Bool) (x y : X) → (if b then x else y) ≡
 counts_loud true x y = refl
 counts_loud false x y = refl
 
--- and so behind parts
+-- and so after parts
 pub lessons_are_sentences : LessonsAreSentences
 lessons_are_sentences tasks names who made w [] said learns sees none = subst (AreSentences tasks names) (sym none) tt
 lessons_are_sentences tasks names who made w (p ∷ ps) said learns sees (text, shown, more, is, lesson, shows, rest) =

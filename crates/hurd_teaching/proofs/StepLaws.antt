@@ -38,7 +38,7 @@ module _ (tasks : List TaskId) (who : Speech) where
   kept_here x true before after text says = rw says.0 tt
   kept_here x false before after text says = rw says.kept says.sees
 
-  -- the next part was told by this text; what is said and shown behind it
+  -- the next part was told by this text; what is said and shown after it
   module _ (old new : Way) (part : Answer) (goes : Goes old (Some part) new) (quiet : Bool) (before after : Option View) (text shown : List ℕ)
       (is : quiet ≡ is_next_quiet tasks who.from old.told (next_task old.left)) (sees : quiet ≡ false → Sees tasks old.world before)
       (says : SaysOf tasks who.learns quiet new.world before after text) (shows : Shows tasks who.sees (is_due who.looks new.told) new.world shown) where

@@ -25,7 +25,7 @@ abbrev pub AddsName : (List ℕ → Option ℕ) → List ℕ → List ℕ → Bo
 AddsName finds name before true after = Takes (tasks_of finds) name before after
 AddsName finds name before false after = Refuses (tasks_of finds) name
 
--- what stands behind the names of those who learn
+-- what comes after the names of those who learn
 abbrev pub verb_of : List TaskId → List ℕ
 verb_of tasks = if nat_lt 1 (length tasks) then codes " learn" else codes " learns"
 

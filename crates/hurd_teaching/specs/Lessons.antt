@@ -9,8 +9,8 @@ use Rattle.hurd_teaching.specs.Looks.{is_due}
 use Rattle.hurd_teaching.specs.Reading.{AreSentences}
 use Rattle.hurd_teaching.specs.Telling.{Shows}
 
--- what is said behind each of these parts, told one after another from a world on where so many were told. Nothing is said of what one of these tasks
--- did, or before lessons begin. Of anything else it is said what these tasks learn between the world before and the world behind it. What they see
+-- what is said after each of these parts, told one after another from a world on where so many were told. Nothing is said of what one of these tasks
+-- did, or before lessons begin. Of anything else it is said what these tasks learn between the world before and the world after it. What they see
 -- then is shown, where that is asked
 abbrev pub LessonsOf : List TaskId → Speech → ℕ → World → List Part → List Said → Type 0
 LessonsOf tasks who made w [] said = said ≡ []
@@ -20,11 +20,11 @@ LessonsOf tasks who made w (p ∷ ps) said =
     × Lesson tasks who.learns quiet w p.world text × Shows tasks who.sees (is_due who.looks (made + 1)) p.world shown
     × LessonsOf tasks who (made + 1) p.world ps more
 
--- a paragraph for each part, with what is said and shown behind it
+-- a paragraph for each part, with what is said and shown after it
 abbrev pub told_text : List Part → List Said → List ℕ
 told_text parts said = printed (answers parts) said
 
--- what is said and shown behind parts is sentences, so that outputs can be read back
+-- what is said and shown after parts is sentences, so that outputs can be read back
 abbrev pub LessonsAreSentences : Type 0
 LessonsAreSentences =
     (tasks : List TaskId) (names : List ℕ) (who : Speech) (made : ℕ) (w : World) (ps : List Part) (said : List Said)

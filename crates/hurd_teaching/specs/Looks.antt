@@ -11,7 +11,7 @@ abbrev pub asks_first : List (List ℕ) → Bool
 asks_first [] = false
 asks_first (line ∷ lines) = if is_look line then true else if is_skipped line then asks_first lines else false
 
--- of each line that says something, whether one stands right behind it
+-- of each line that says something, whether one stands right after it
 abbrev pub asks_behind : List (List ℕ) → List Bool
 asks_behind [] = []
 asks_behind (line ∷ lines) =
@@ -43,7 +43,7 @@ said_before (line ∷ lines) =
     else if is_skipped line then said_before lines
     else option_map suc (said_before lines)
 
--- how many things are done before lessons begin, where the first of so many places before and behind lines that say something are none behind a thing that is done
+-- how many things are done before lessons begin, where the first of so many places before and after lines that say something are none after a thing that is done
 abbrev pub starts_behind : ℕ → Option ℕ → ℕ
 starts_behind first None = 0
 starts_behind first (Some said) = said - (first - 1)

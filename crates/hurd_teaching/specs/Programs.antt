@@ -12,12 +12,12 @@ use Rattle.hurd_teaching.specs.Shown.{Front, Whole}
 use Rattle.hurd_teaching.specs.Telling.{Shows}
 use Rattle.hurd_teaching.specs.declared.learners.Learners.{Learners}
 
--- those whom a word names of a text are these
+-- those that WHO names of a text are these
 abbrev pub AreThese : Sort → List ℕ → List ℕ → Learners → Type 0
 AreThese sort word text learners =
     AreNamed (tasks_named (sort.finds text) word) (sort.called word) (drop (sort.heading text) (asks_of (lines_of text))) (starts_of (sort.heading text) (lines_of text)) learners
 
--- the program that prints a text with what those learn whom a word names: of each lesson, and of what they see each time that a text asks, at most so many
+-- the program that prints a text with what those that WHO names learn: of each lesson, and of what they see each time that a text asks, at most so many
 -- bytes, if that is limited
 abbrev pub learning : Sort → Option ℕ → List ℕ → Program
 learning sort most word = record {
@@ -30,7 +30,7 @@ learning sort most word = record {
   IsPart = λ text printed. (learners : Learners) × AreThese sort word text learners × Front most learners sort.thing (sort.world text) (sort.parts text) printed;
 }
 
--- all that those see whom a word names is printed so, as they see it at the end of a text; or at most so many bytes of it
+-- all that those that WHO names see is printed so, as they see it at the end of a text; or at most so many bytes of it
 abbrev pub SeenAtEnd : Sort → Option ℕ → List ℕ → List ℕ → List ℕ → Type 0
 SeenAtEnd sort most word text printed =
     (learners : Learners) × AreThese sort word text learners

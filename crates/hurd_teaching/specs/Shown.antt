@@ -23,7 +23,7 @@ use Rattle.hurd_teaching.specs.declared.learners.Learners.{Learners}
 abbrev pub part_text : Option ℕ → Speech → Part → List ℕ → List ℕ → List ℕ
 part_text most who p said shown = paragraph p.answer (shortened most who.learns said ++ shortened most who.sees shown)
 
--- a part is told where so many were told: its paragraph was printed with what is said and shown behind it, and that was counted
+-- a part is told where so many were told: its paragraph was printed with what is said and shown after it, and that was counted
 pub record IsTold (most : Option ℕ) (tasks : List TaskId) (who : Speech) (made : ℕ) (w : World) (p : Part) (tally : Tally) (before : Option (List ℕ))
     (kept : Option View) (count : Tally) (after : Option (List ℕ)) : Type 0 where
   pub said : List ℕ
@@ -47,7 +47,7 @@ StopsAt most tasks who old before after =
     × (said shown : List ℕ) × Lesson tasks who.learns (is_quiet tasks who.from old.told p.task) old.world p.world said
     × Shows tasks who.sees (is_due who.looks (old.told + 1)) p.world shown × AppendsFront before after (part_text most who p said shown))
 
--- all parts were told and printed, each with what is said behind it, and that was counted
+-- all parts were told and printed, each with what is said after it, and that was counted
 pub record ToldAll (most : Option ℕ) (tasks : List TaskId) (who : Speech) (made : ℕ) (w : World) (parts : List Part) (tally : Tally) (before : Option (List ℕ)) (count : Tally) (after : Option (List ℕ)) : Type 0 where
   pub said : List Said
   pub lessons : LessonsOf tasks who made w parts said
@@ -67,7 +67,7 @@ pub record ToldSome (most : Option ℕ) (tasks : List TaskId) (who : Speech) (ma
 abbrev pub last_of : Learners → List ℕ → List Said → List ℕ
 last_of learners thing said = last_line learners.names.items thing (tally_from (record { others = 0; taught = 0 }) said)
 
--- all that is printed: each part and what is said behind it, and the last line
+-- all that is printed: each part and what is said after it, and the last line
 pub record Whole (most : Option ℕ) (learners : Learners) (thing : List ℕ) (w : World) (parts : List Part) (text : List ℕ) : Type 0 where
   pub said : List Said
   pub lessons : LessonsOf learners.tasks.items (speech learners) 0 w parts said

@@ -11,12 +11,12 @@ pub fn outputs_are_read_back()
     ensures { ReadBack }
 {}
 
-/// A law: of a text one text is printed for those whom a word names.
+/// A law: of a text one text is printed for those that WHO names.
 pub fn one_text_is_printed()
     ensures { (sort : Sort) (most : Option ℕ) (word : List ℕ) → PrintsOneText (learning sort most word) }
 {}
 
-/// A law: of a text one text is printed of what those see at its end whom a word names.
+/// A law: of a text one text is printed of what those that WHO names see at its end.
 pub fn one_sight_is_printed()
     ensures { (sort : Sort) (most : Option ℕ) (word : List ℕ) → PrintsOneText (seeing sort most word) }
 {}

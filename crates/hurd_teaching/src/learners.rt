@@ -24,7 +24,7 @@ pub struct Learners {
     pub from: usize,
 }
 
-/// What stands behind the names of those who learn.
+/// What comes after the names of those who learn.
 fn verb(tasks: &[TaskId]) -> &'static [u8]
     ensures { result.now ≡ verb_of tasks.now }
 {
@@ -43,7 +43,7 @@ fn see(tasks: &[TaskId]) -> &'static [u8]
 }
 
 impl Learners {
-    /// Tasks that are called so, with where all that they see is to be shown, and where lessons begin. An error is want of memory.
+    /// Tasks that are called so, with where all that they see is to be shown, and where lessons begin. Fails only if memory runs out.
     pub fn called(
         alloc: Global,
         tasks: Vec<TaskId>,

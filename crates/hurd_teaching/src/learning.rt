@@ -41,7 +41,7 @@ fn learn<T: Telling, W: Write>(
     output.print(line.as_slice())
 }
 
-/// Begins a text, and prints all that it tells, with what those learn whom a word names, and the last line. Of a lesson, and of what they see each time that the
+/// Begins a text, and prints all that it tells, with what those that WHO names learn, and the last line. Of a lesson, and of what they see each time that the
 /// text asks, at most `most` bytes are printed, in whole lines, and then a line that says how many bytes more there are.
 ///
 /// `Bad` with the line at which it is bad, `Boot` with its world's refusal, `Unknown` where somebody is named who isn't in it: then nothing is printed.

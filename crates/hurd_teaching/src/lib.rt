@@ -1,7 +1,7 @@
-//! What some tasks see of a world, and what they learn while a text goes on: who learns, what is said behind what each task did, where it is asked what
+//! What some tasks see of a world, and what they learn while a text goes on: who learns, what is said after what each task did, where it is asked what
 //! they see, and what is shown then.
 //!
-//! `learn_text` begins a text and prints all that it tells, with what those learn whom a word names. `see_text` prints what they see at its end. `reached`, `seen`, `look` and `view_of` tell of a
+//! `learn_text` begins a text and prints all that it tells, with what those that WHO names learn. `see_text` prints what they see at its end. `reached`, `seen`, `look` and `view_of` tell of a
 //! world as it is which ids a set of tasks can act with, which nodes it sees, each with why, which parts, and all that it sees with its values. A `Watch`
 //! keeps what some tasks saw, and says what they learned since.
 #![tactic(auto)]

@@ -20,7 +20,7 @@ fn is_look(line: &[u8]) -> bool
     line == LOOK
 }
 
-/// Where a text asks, by its lines that say something. An error is want of memory.
+/// Where a text asks, by its lines that say something. Fails only if memory runs out.
 fn asks(alloc: Global, text: &[u8]) -> Result<Vec<bool>, AllocError>
     ensures { IfOk result (λ asks. asks.items ≡ asks_of (lines_of text.now)) }
 {
@@ -40,7 +40,7 @@ fn asks(alloc: Global, text: &[u8]) -> Result<Vec<bool>, AllocError>
     Ok(asks)
 }
 
-/// Where a text asks what is seen, without the first so many places. An error is want of memory.
+/// Where a text asks what is seen, without the first so many places. Fails only if memory runs out.
 pub(crate) fn asked_looks(alloc: Global, text: &[u8], first: usize) -> Result<Vec<bool>, AllocError>
     ensures { IfOk result (λ looks. looks.items ≡ drop first (asks_of (lines_of text.now))) }
 {
@@ -58,7 +58,7 @@ fn is_start(line: &[u8]) -> bool
     line == START
 }
 
-/// How many lines that say something stand before the first from which on lessons are told, if there is one. An error is want of memory.
+/// How many lines that say something stand before the first from which on lessons are told, if there is one. Fails only if memory runs out.
 fn said_before(alloc: Global, text: &[u8]) -> Result<Option<usize>, AllocError>
     ensures { IfOk result (λ said. said ≡ said_before (lines_of text.now)) }
 {
@@ -75,7 +75,7 @@ fn said_before(alloc: Global, text: &[u8]) -> Result<Option<usize>, AllocError>
     Ok(None)
 }
 
-/// How many things are done before lessons begin, where the first so many places of a text are behind none of them. An error is want of memory.
+/// How many things are done before lessons begin, where the first so many places of a text are after none of them. Fails only if memory runs out.
 pub(crate) fn lessons_begin(alloc: Global, text: &[u8], first: usize) -> Result<usize, AllocError>
     ensures { IfOk result (λ from. from ≡ starts_of first (lines_of text.now)) }
 {

@@ -1,4 +1,4 @@
-//! Those whom a word names.
+//! Those that WHO names.
 ghost use Rattle.std.specs.Prelude.{◌≡◌, IfOk, List, Option, Vec, drop, ℕ};
 ghost use Rattle.std.specs.Global.{Global};
 ghost use Rattle.std.specs.Option.{option_map};
@@ -32,7 +32,7 @@ impl<T: Telling> Naming for T {
     }
 }
 
-/// One task more, of a name; whether there is one. An error is want of memory.
+/// One task more, of a name; whether there is one. Fails only if memory runs out.
 fn add_task<N: Naming>(tasks: &mut Vec<TaskId>, naming: &N, name: &str) -> Result<bool, AllocError>
     ensures { IfOk result (λ found. AddsName (N.tasks naming.now) name.now (numbers tasks.old.items) found (numbers tasks.new.items)) }
 {
@@ -45,7 +45,7 @@ fn add_task<N: Naming>(tasks: &mut Vec<TaskId>, naming: &N, name: &str) -> Resul
     }
 }
 
-/// The tasks of those whose names stand in a word between commas; none where one of them isn't found. An error is want of memory.
+/// The tasks of those whose names stand in a word between commas; none where one of them isn't found. Fails only if memory runs out.
 pub fn tasks_of<N: Naming>(
     alloc: Global,
     naming: &N,
@@ -64,7 +64,7 @@ pub fn tasks_of<N: Naming>(
 }
 
 /// Those whose names stand in a word between commas, of a text that was begun, with where it asks what they see, and where lessons begin; none where one of
-/// them isn't in it. An error is want of memory.
+/// them isn't in it. Fails only if memory runs out.
 pub fn learners_of<T: Telling>(
     alloc: Global,
     telling: &T,

@@ -15,7 +15,7 @@ use hurd_terminal::{Fault, Output};
 use std::alloc::{AllocError, Global};
 use std::io::Write;
 
-/// All that some see at the end of a text. An error is want of memory.
+/// All that some see at the end of a text. Fails only if memory runs out.
 fn seen_at_end<T: Telling>(
     alloc: Global,
     telling: &mut T,
@@ -27,7 +27,7 @@ fn seen_at_end<T: Telling>(
     shown(alloc, telling.world(), learners, true)
 }
 
-/// Begins a text, and prints all that those see at its end whom a word names; or at most `most` bytes of it, in whole lines, and then a line that says how many
+/// Begins a text, and prints all that those that WHO names see at its end; or at most `most` bytes of it, in whole lines, and then a line that says how many
 /// bytes more there are.
 ///
 /// `Bad` with the line at which it is bad, `Boot` with its world's refusal, `Unknown` where somebody is named who isn't in it; `Memory`: then nothing is

@@ -27,7 +27,7 @@ fn is_quiet<T: Telling>(telling: &T, learners: &Learners) -> bool
 }
 
 /// Whether nothing is said of the next part. Before any other it is looked at what these see, unless that was done, and noted from then on what is touched.
-/// An error is want of memory.
+/// Fails only if memory runs out.
 fn looked<T: Telling>(
     alloc: Global,
     telling: &mut T,

@@ -1,4 +1,4 @@
-//! What is said behind what each task did, and what is shown.
+//! What is said after what each task did, and what is shown.
 ghost use Rattle.std.specs.Prelude.{◌≡◌, ◌++◌, if◌then◌else◌, true, false, IfErr, IfOk, OnOk};
 ghost use Rattle.std.specs.Io.KnownBytes.{Appends};
 ghost use Rattle.hurd_world.specs.Held.{world_of};
@@ -23,7 +23,7 @@ use hurd_world::World;
 use std::alloc::{AllocError, Global};
 use std::io::Write;
 
-/// Looks at what these see before something is done, unless that was done, or nothing is to be said. An error is want of memory.
+/// Looks at what these see before something is done, unless that was done, or nothing is to be said. Fails only if memory runs out.
 pub fn look_before<S: Server>(
     alloc: Global,
     world: &World<S>,
@@ -41,8 +41,8 @@ pub fn look_before<S: Server>(
     Ok(())
 }
 
-/// What is said behind what was done: nothing where nothing is to be said, and then these are looked at anew; else what they learn by it. An error is
-/// want of memory.
+/// What is said after what was done: nothing where nothing is to be said, and then these are looked at anew; else what they learn by it. Fails only if
+/// memory runs out.
 pub fn said<S: Server>(
     alloc: Global,
     world: &World<S>,
@@ -82,7 +82,7 @@ pub(crate) fn said_if_moved<S: Server>(
     said(alloc, world, learners, watch, quiet)
 }
 
-/// What is shown behind what was done: all that these see, where that is asked for. An error is want of memory.
+/// What is shown after what was done: all that these see, where that is asked for. Fails only if memory runs out.
 pub(crate) fn shown<S: Server>(
     alloc: Global,
     world: &World<S>,

@@ -69,7 +69,7 @@ impl Watch {
         Watch { seen: None }
     }
 
-    /// Looks at what these tasks see of a world, unless that was done. An error is want of memory, and then what was seen is kept.
+    /// Looks at what these tasks see of a world, unless that was done. Fails only if memory runs out; then what was seen is kept.
     pub fn look<S: Server>(
         &mut self,
         alloc: Global,
@@ -103,7 +103,7 @@ impl Watch {
         self.seen = None;
     }
 
-    /// What these tasks learn of a world since they were looked at, a line for each thing, and looks at them. An error is want of memory,
+    /// What these tasks learn of a world since they were looked at, a line for each thing, and looks at them. Fails only if memory runs out,
     /// and then what was seen is kept.
     pub fn learned<S: Server>(
         &mut self,

@@ -9,7 +9,7 @@ use Rattle.hurd_terminal.specs.declared.fault.Fault.{Fault}
 use Rattle.hurd_terminal.specs.declared.fault.Fault.TheVariants.{Write}
 use Rattle.hurd_terminal.specs.declared.print.Output.{Output}
 
--- so many bytes of the rest were printed behind a front
+-- so many bytes of the rest were printed after a front
 pub front_grows : (all front rest : List ℕ) (n : ℕ) → all ≡ front ++ rest → all ≡ (front ++ take n rest) ++ take (length rest - n) (drop n rest)
 front_grows all front rest n split =
     split ∙ (ap (λ bs. front ++ bs) (sym (take-append-drop n rest)) ∙ (sym (append_assoc front (take n rest) (drop n rest)) ∙ ap (λ bs. (front ++ take n rest) ++ bs) (sym (take_rest rest n))))

@@ -15,15 +15,15 @@ status_of (Err (Bad line)) = 1
 status_of (Err Unknown) = 1
 status_of (Err _) = 2
 
--- what stands behind the name of a file whose world is refused
+-- what comes after the name of a file whose world is refused
 abbrev pub refusal_by : Errno → List ℕ
 refusal_by e = codes ": cannot create the initial tree: " ++ name_of e ++ codes "\n"
 
--- a line of a file: its name, and this behind it
+-- a line of a file: its name, and this after it
 abbrev pub of_file : List ℕ → List ℕ → List ℕ
 of_file file tail = codes "hurd: " ++ (file ++ tail)
 
--- what stands on standard error: nothing where all was printed. Behind the name of a file a complaint stands where its text is bad, and another text
+-- what stands on standard error: nothing where all was printed. After the name of a file a complaint stands where its text is bad, and another text
 -- where somebody is named who isn't in it
 abbrev pub line_of : List ℕ → List ℕ → List ℕ → Result (Unit {0}) Fault → List ℕ
 line_of file complaint stranger (Ok _) = []

@@ -8,7 +8,7 @@ use Rattle.hurd_terminal.specs.declared.fault.Fault.TheVariants.{Read, Write, Ba
 use Rattle.hurd_terminal.specs.declared.print.Output.{Output}
 use Rattle.hurd_terminal.specs.declared.read.Input.{Input}
 
--- what a program makes of a text: what it says behind the name of its file where it is bad, and where somebody is named who isn't in it; the line at which
+-- what a program makes of a text: what it says after the name of its file where it is bad, and where somebody is named who isn't in it; the line at which
 -- a text is bad, whether its world may begin, whether all who are named are in it, all that is printed of it, and a front of that
 pub record Program : Type 1 where
   pub complaint : List ℕ → List ℕ

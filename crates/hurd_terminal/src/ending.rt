@@ -9,7 +9,7 @@ use arrayvec::ArrayString;
 use hurd_creds::Errno;
 use std::io::Write;
 
-/// Room for the longest text behind the name of a file.
+/// Room for the longest text after the name of a file.
 const TAIL_BYTES: usize = 64;
 
 /// Three texts, one after another.
@@ -24,14 +24,14 @@ fn joined(first: &str, second: &str, third: &str) -> ArrayString<TAIL_BYTES>
     text
 }
 
-/// What stands behind the name of a file whose world is refused. Takes no memory.
+/// What comes after the name of a file whose world is refused. Takes no memory.
 fn refusal_by(errno: Errno) -> ArrayString<TAIL_BYTES>
     ensures { result.bytes ≡ refusal_by errno }
 {
     joined(": cannot create the initial tree: ", errno.name(), "\n")
 }
 
-/// Prints a line of a file: its name, and a tail behind it.
+/// Prints a line of a file: its name, and a tail after it.
 ///
 /// `Write` where a write fails: then only some first bytes of it were printed.
 fn say_of<E: Write>(file: &[u8], tail: &[u8], errors: &mut Output<E>) -> Result<(), Fault>
@@ -78,7 +78,7 @@ fn status(fault: Fault) -> u8
     }
 }
 
-/// Ends a program: says of a file why there was a fault, as far as that can be written, and gives the exit status. `complaint` stands behind the
+/// Ends a program: says of a file why there was a fault, as far as that can be written, and gives the exit status. `complaint` comes after the
 /// file's name where its text is bad, `stranger` where somebody is named who isn't in it. Takes no memory.
 pub fn finish<E: Write>(
     ended: Result<(), Fault>,

@@ -19,7 +19,7 @@ pub record Alike (o p : Option Node) : Type 0 where
 abbrev pub AllAlike : NodeMap → NodeMap → Type 0
 AllAlike m k = (q : Name) → Alike (fin.get m q) (fin.get k q)
 
--- but for one name
+-- except for one name
 abbrev pub AlikeElse : Name → NodeMap → NodeMap → Type 0
 AlikeElse n m k = (q : Name) → q ≢ n → Alike (fin.get m q) (fin.get k q)
 

@@ -35,7 +35,7 @@ among_any {X} x p same (y ∷ ys) h = by (p y) refl h (among_any x p same ys)
 pub adds_had : (x : SeenPart) (xs : List SeenPart) → IsAmong x xs → Adds (λ p. p ≡ part_of x) (These xs) (These xs)
 adds_had x xs h = record { kept = λ p on. on; added = λ p e. subst (λ q. IsAmong q (map part_of xs)) (sym e) (among_parts x xs h) }
 
--- a part behind the others
+-- a part after the others
 pub adds_last : (x : SeenPart) (xs : List SeenPart) → Adds (λ p. p ≡ part_of x) (These xs) (These (xs ++ x ∷ []))
 adds_last x xs = record { kept = λ p on. still p x xs on; added = λ p e. subst (λ q. IsAmong q (map part_of (xs ++ x ∷ []))) (sym e) (last x xs) }
 

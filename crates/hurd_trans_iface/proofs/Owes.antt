@@ -34,7 +34,7 @@ pub record Nameless (b : Behaviour) : Type 0 where
   pub set_size : (size : ℕ) → IsNameless b (resizing size)
   pub readable : (to : Name → Name) (text : List ℕ) (x : Node) (at : ℕ) → b.readable text (node_renamed to x) at ≡ b.readable text x at
 
--- the words behind the program's name that a text gives say it again
+-- the words after the program's name that a text gives say it again
 abbrev pub SaysAgain : Behaviour → List ℕ → Type 0
 SaysAgain b text = b.begins (drop 1 (b.options text)) ≡ Some text
 

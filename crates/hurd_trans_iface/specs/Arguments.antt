@@ -1,10 +1,10 @@
--- What the words behind a program's name say, as several kinds of servers take them.
+-- What the words after a program's name say, as several kinds of servers take them.
 use Rattle.std.specs.Prelude.{ℕ, ◌==◌, Bool, true, false, not, if◌then◌else◌, List, [], ◌∷◌, length, take, drop, Option, Some, None, Result, Ok, Err}
 use Rattle.std.specs.Str.{bytes_eq}
 use Rattle.hurd_creds.specs.declared.errno.Errno.{Errno}
 use Rattle.hurd_creds.specs.declared.errno.Errno.TheVariants.{EINVAL}
 
--- what a word has behind its first bytes, where these are so
+-- what a word has after its first bytes, where these are so
 abbrev pub behind : List ℕ → List ℕ → Option (List ℕ)
 behind first word = if bytes_eq (take (length first) word) first then Some (drop (length first) word) else None
 

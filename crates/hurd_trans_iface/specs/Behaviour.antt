@@ -31,7 +31,7 @@ only t = Ok (record { told = t; bytes = None; size = None })
 pub record Behaviour : Type 0 where
   -- the name of its program
   pub program : List ℕ
-  -- the text of the server that these words behind the program's name make, if any
+  -- the text of the server that these words after the program's name make, if any
   pub begins : List (List ℕ) → Option (List ℕ)
   -- the program and its words, as they would be given to make a server of this text
   pub options : List ℕ → List (List ℕ)
@@ -119,7 +119,7 @@ left_by (Err e) x = x
 abbrev pub served : {T : Type 0} → Effect T → Node → Result T Errno × Node
 served e x = (told_of e, left_by e x)
 
--- an effect on a node of this header, but for one by which what it counts for grows past the space that there is
+-- an effect on a node of this header, except for one by which what it counts for grows past the space that there is
 abbrev pub fitting_in : {T : Type 0} → ℕ → Header → Effect T → Effect T
 fitting_in space h (Err e) = Err e
 fitting_in space h (Ok d) = if overfills (Some space) (counts_for h) (counts_for (size_left d.size h)) then Err ENOSPC else Ok d

@@ -11,7 +11,7 @@ use Rattle.hurd_trans_iface.specs.Behaviour.{Behaviour, Effect, only}
 pub record StillKind : Type 0 where
   pub program : List ℕ
   pub begins : List (List ℕ) → Option (List ℕ)
-  -- the words behind the program's name that make a server of this text
+  -- the words after the program's name that make a server of this text
   pub arguments : List ℕ → List (List ℕ)
   pub set_options : List (List ℕ) → Result (Option (List ℕ)) Errno
   pub fits : List ℕ → Bool

@@ -32,9 +32,9 @@ const MOST_SIZE_DIGITS: usize = 12;
 /// The kinds of servers.
 #[derive(Clone, Copy, Debug)]
 pub enum ServerKind {
-    /// A tree in memory, whose text is the digits of its limit, or none: `/hurd/tmpfs`, alone or with one word `--size=` and a number behind it.
+    /// A tree in memory, whose text is the digits of its limit, or none: `/hurd/tmpfs`, alone or with one word `--size=` and a number after it.
     Tmpfs,
-    /// A file that gives its text: `/hurd/hello`, alone or with one word `--contents=` and the text behind it.
+    /// A file that gives its text: `/hurd/hello`, alone or with one word `--contents=` and the text after it.
     Hello,
     /// A stream without bytes: `/hurd/null` alone.
     Null,
@@ -64,7 +64,7 @@ pub struct Begun<'a> {
     pub paths: &'a [Bytes],
 }
 
-/// The text that the words behind a program's name say to a kind that wants none.
+/// The text that the words after a program's name say to a kind that wants none.
 fn alone(arguments: &[Bytes]) -> Option<&[u8]>
     ensures { option_map (λ text. text.now) result ≡ no_text arguments.now }
 {
@@ -74,14 +74,14 @@ fn alone(arguments: &[Bytes]) -> Option<&[u8]>
     }
 }
 
-/// What stands behind these bytes in a word, if it begins with them.
+/// What comes after these bytes in a word, if it begins with them.
 fn behind<'a>(first: &[u8], word: &'a [u8]) -> Option<&'a [u8]>
     ensures { option_map (λ rest. rest.now) result ≡ behind first.now word.now }
 {
     word.strip_prefix(first)
 }
 
-/// What stands behind `--contents=` in a word, if it begins so.
+/// What comes after `--contents=` in a word, if it begins so.
 pub fn contents_in(word: &[u8]) -> Option<&[u8]>
     ensures { option_map (λ text. text.now) result ≡ behind (codes "--contents=") word.now }
 {
@@ -95,7 +95,7 @@ fn says_size(digits: &[u8]) -> bool
     digits.len() <= MOST_SIZE_DIGITS && is_bare(digits) && long_number(digits).is_some()
 }
 
-/// The digits behind `--size=` in a word, if it says a size: 0 to 999,999,999,999, with no zero in front.
+/// The digits after `--size=` in a word, if it says a size: 0 to 999,999,999,999, with no zero in front.
 pub fn size_in(word: &[u8]) -> Option<&[u8]>
     ensures { option_map (λ digits. digits.now) result ≡ size_word word.now }
 {
@@ -105,7 +105,7 @@ pub fn size_in(word: &[u8]) -> Option<&[u8]>
     }
 }
 
-/// What the words behind `/hurd/tmpfs` say: nothing, or one `--size=` with a number behind it.
+/// What the words after `/hurd/tmpfs` say: nothing, or one `--size=` with a number after it.
 fn tree(arguments: &[Bytes]) -> Option<&[u8]>
     ensures { option_map (λ text. text.now) result ≡ tmpfs_text arguments.now }
 {
@@ -116,7 +116,7 @@ fn tree(arguments: &[Bytes]) -> Option<&[u8]>
     }
 }
 
-/// What the words behind `/hurd/hello` say: nothing, or one `--contents=` with a text behind it.
+/// What the words after `/hurd/hello` say: nothing, or one `--contents=` with a text after it.
 fn hello(arguments: &[Bytes]) -> Option<&[u8]>
     ensures { option_map (λ text. text.now) result ≡ hello_text arguments.now }
 {
@@ -127,7 +127,7 @@ fn hello(arguments: &[Bytes]) -> Option<&[u8]>
     }
 }
 
-/// What the words behind `/hurd/symlink` say: one path of 1 to 1,024 bytes.
+/// What the words after `/hurd/symlink` say: one path of 1 to 1,024 bytes.
 fn symlink(arguments: &[Bytes]) -> Option<&[u8]>
     ensures { option_map (λ text. text.now) result ≡ target_text arguments.now }
 {
@@ -151,7 +151,7 @@ pub fn is_firm(path: &Bytes) -> bool
     is_absolute(path.as_slice()) && path.len() <= MOST_PATH
 }
 
-/// What the words behind `/hurd/firmlink` say: one path from the root of the tree.
+/// What the words after `/hurd/firmlink` say: one path from the root of the tree.
 fn firmlink(arguments: &[Bytes]) -> Option<&[u8]>
     ensures { option_map (λ text. text.now) result ≡ firm_text arguments.now }
 {
@@ -168,7 +168,7 @@ fn are_firm(paths: &[Bytes]) -> bool
     paths.iter().all(|path| is_firm(path))
 }
 
-/// Whether the words behind `/hurd/union` make a union: 1 to 16 such paths.
+/// Whether the words after `/hurd/union` make a union: 1 to 16 such paths.
 pub fn says_targets(arguments: &[Bytes]) -> bool
     ensures { result ≡ is_some (union_text arguments.now) }
 {
@@ -178,7 +178,7 @@ pub fn says_targets(arguments: &[Bytes]) -> bool
     }
 }
 
-/// What the words behind `/hurd/magic` say: `fd` alone.
+/// What the words after `/hurd/magic` say: `fd` alone.
 fn magic(arguments: &[Bytes]) -> Option<&[u8]>
     ensures { option_map (λ text. text.now) result ≡ magic_text arguments.now }
 {
@@ -210,7 +210,7 @@ pub fn says_drops(digits: &[u8]) -> bool
         }
 }
 
-/// What the words behind `/hurd/drip` say: how many bytes it has.
+/// What the words after `/hurd/drip` say: how many bytes it has.
 fn drip(arguments: &[Bytes]) -> Option<&[u8]>
     ensures { option_map (λ text. text.now) result ≡ drip_text arguments.now }
 {
@@ -220,7 +220,7 @@ fn drip(arguments: &[Bytes]) -> Option<&[u8]>
     }
 }
 
-/// What the words behind `/hurd/union` say: 1 to 16 such paths.
+/// What the words after `/hurd/union` say: 1 to 16 such paths.
 fn union(arguments: &[Bytes]) -> Option<Begun<'_>>
     ensures { option_map server_said result ≡ option_map (new_server Union) (union_text arguments.now) }
 {
@@ -245,7 +245,7 @@ fn saying(kind: ServerKind, text: &[u8]) -> Begun<'_>
     }
 }
 
-/// What the words behind the name of this program say.
+/// What the words after the name of this program say.
 fn named<'a>(program: &Bytes, arguments: &'a [Bytes]) -> Option<Begun<'a>>
     ensures { option_map server_said result ≡ begin (program.now ∷ arguments.now) }
 {

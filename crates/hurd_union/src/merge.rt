@@ -31,7 +31,7 @@ fn noted(alloc: Global, names: &Names) -> Result<There, AllocError>
     Ok(there)
 }
 
-/// One more name behind those that a set has, where it is not there yet.
+/// One more name after those that a set has, where it is not there yet.
 fn add(alloc: Global, there: &mut There, all: &mut Names, name: Bytes) -> Result<(), AllocError>
     requires { Tells there.now.keys all.now }
     ensures tells { OnOk result (Tells there.new.keys all.new) }
@@ -73,7 +73,7 @@ impl Merged {
         Ok(Merged { names, there })
     }
 
-    /// With more names behind them.
+    /// With more names after them.
     pub fn with_names(self, alloc: Global, more: Names) -> Result<Merged, AllocError>
         ensures { IfOk result (λ merged. merged ≡ merge self more) }
     {

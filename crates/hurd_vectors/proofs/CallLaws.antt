@@ -1,4 +1,4 @@
--- The vector of a call, and those of the calls behind it.
+-- The vector of a call, and those of the calls after it.
 use Rattle.std.proofs.Common.{◌≡◌, ◌∙◌, ap, refl, sym, false, ℕ, List, [], ◌∷◌, Option, map}
 use Rattle.std.specs.Option.{option_map}
 use Rattle.hurd_trans_iface.specs.Meaning.{Meaning}

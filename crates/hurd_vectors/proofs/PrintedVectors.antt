@@ -67,7 +67,7 @@ module _ (text header : List ℕ) (calls : Calls) (begins : Begins text calls) (
       sym whole ∙ (ap (λ (bs : List ℕ). bs ++ concat (left_of calls)) split ∙ append_assoc front rest (concat (left_of calls))) in
       adds_part vectors output before after text front fault (inl (write, failed)) taken (rest ++ concat (left_of calls), all) adds
 
-  -- the first line was printed, and all that is left behind it, or a front of that
+  -- the first line was printed, and all that is left after it, or a front of that
   pub calls_add : {W : Type 0} (output : Output W) (before between after : Option (List ℕ)) (ended : Result (Unit {0}) Fault) → Appends before between header
       → OnOk ended (Appends between after (concat (left_of calls))) → IfErr ended (λ fault. IsPrintFault output fault × AppendsFront between after (concat (left_of calls)))
       → Adds vectors text before after ended

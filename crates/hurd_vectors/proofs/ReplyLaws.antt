@@ -33,7 +33,7 @@ retry_name_printable : (kind : RetryKind) → Printable (retry_name kind)
 retry_name_printable Normal = refl
 retry_name_printable _ = refl
 
--- two texts, each behind another
+-- two texts, each after another
 twice : (one text two more : List ℕ) → Printable one → Printable text → Printable two → Printable more → Printable (one ++ (text ++ (two ++ more)))
 twice one text two more p q r s = both one (text ++ (two ++ more)) p (both text (two ++ more) q (both two more r s))
 

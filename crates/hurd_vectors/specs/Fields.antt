@@ -106,7 +106,7 @@ sort_of _ = sort.Number
 abbrev pub word_at : List (List ℕ) → ℕ → List ℕ
 word_at words place = get_or words place []
 
--- the value of a sort that words begin with: a word, or all texts before `box`. Bytes and texts stand behind `=`
+-- the value of a sort that words begin with: a word, or all texts before `box`. Bytes and texts come after `=`
 abbrev pub value : Sort → List (List ℕ) → List ℕ
 value sort.Number words = number (word_at words 0)
 value sort.Plain words = quoted (word_at words 0)
@@ -115,7 +115,7 @@ value sort.Names words = names (word_at words 0)
 value sort.Numbers words = numbers (word_at words 0)
 value sort.Texts words = texts 1 (before_box words)
 
--- the words behind a value: none is behind texts but those that begin with `box`, which is found again
+-- the words after a value: none is after texts but those that begin with `box`, which is found again
 abbrev pub words_behind : Sort → List (List ℕ) → List (List ℕ)
 words_behind sort.Texts words = words
 words_behind _ words = drop 1 words
@@ -129,7 +129,7 @@ abbrev pub server_text : Option (List (List ℕ)) → List ℕ
 server_text None = []
 server_text (Some words) = codes "\"server\": " ++ (texts 1 words ++ codes ", ")
 
--- fields with the words that are their values, and behind them the words of a server
+-- fields with the words that are their values, and after them the words of a server
 unfoldable pub told_fields : List Field → List (List ℕ) → List ℕ
 told_fields [] words = server_text (behind_box words)
 told_fields (field ∷ more) words = field_text field words ++ told_fields more (words_behind (sort_of field) words)

@@ -51,12 +51,12 @@ natural digits = decimal (found (long_number_of digits))
 abbrev pub below : ℕ → List ℕ
 below n = (if n == 0 then [] else codes "-") ++ decimal n
 
--- digits as a number, behind `-` where it is below zero
+-- digits as a number, after `-` where it is below zero
 abbrev pub number : List ℕ → List ℕ
 number [] = natural []
 number (b ∷ bs) = if b == 45 then below (found (long_number_of bs)) else natural (b ∷ bs)
 
--- numbers, each behind a comma
+-- numbers, each after a comma
 unfoldable pub more_numbers : List (List ℕ) → List ℕ
 more_numbers [] = []
 more_numbers (word ∷ words) = codes ", " ++ (natural word ++ more_numbers words)
@@ -69,7 +69,7 @@ joined_numbers (word ∷ words) = natural word ++ more_numbers words
 abbrev pub numbers : List ℕ → List ℕ
 numbers word = if bytes_eq word (codes "-") then codes "[]" else 91 ∷ joined_numbers (slice_split (λ b. b == 44) word) ++ 93 ∷ []
 
--- texts without so many of their first bytes, each behind a comma
+-- texts without so many of their first bytes, each after a comma
 unfoldable pub more_texts : ℕ → List (List ℕ) → List ℕ
 more_texts skip [] = []
 more_texts skip (text ∷ texts) = codes ", " ++ (quoted (drop skip text) ++ more_texts skip texts)

@@ -23,7 +23,7 @@ line_words line = words_or_none (good_words bytes_of (slice_split (λ b. b == 32
 abbrev pub vector_of : List ℕ → Reply → List ℕ
 vector_of line r = 123 ∷ call_fields (line_words line) ++ (codes "\"reply\": " ++ (reply_text r ++ codes "}\n"))
 
--- the ids of a task, by the words behind `task`
+-- the ids of a task, by the words after `task`
 abbrev pub ids_of : List (List ℕ) → List ℕ
 ids_of words = codes "{\"uids\": " ++ (numbers (word_at words 1) ++ (codes ", \"gids\": " ++ (numbers (word_at words 2) ++ codes "}")))
 
@@ -34,7 +34,7 @@ ids_by words = if begins_with (codes "task") words then Some (ids_of words) else
 abbrev pub ids_on : List ℕ → Option (List ℕ)
 ids_on line = if is_skipped line then None else ids_by (line_words line)
 
--- behind a comma, but for the first
+-- after a comma, except for the first
 abbrev pub ids_text : Bool → Option (List ℕ) → List ℕ
 ids_text first None = []
 ids_text first (Some ids) = if first then ids else codes ", " ++ ids
@@ -52,7 +52,7 @@ header_of text = codes "{\"tasks\": [" ++ (tasks_text true (lines_of text) ++ co
 abbrev pub is_printable : ℕ → Bool
 is_printable b = nat_le 32 b && nat_le b 126
 
--- a line: a newline behind such bytes
+-- a line: a newline after such bytes
 pub record IsLine (line : List ℕ) : Type 0 where
   pub front : List ℕ
   pub is : line ≡ front ++ 10 ∷ []

@@ -11,12 +11,12 @@ use Rattle.hurd_machine.specs.declared.call.Reply.TheVariants as reply
 use Rattle.hurd_lists.specs.Replies.{flags_text, high_digits, kind_name, retry_name}
 use Rattle.hurd_vectors.specs.Json.{names, quoted, texts, truth}
 
--- a port as a field behind others, where there is one
+-- a port as a field after others, where there is one
 abbrev pub port_text : Option ℕ → List ℕ
 port_text None = []
 port_text (Some port) = codes ", \"port\": " ++ decimal port
 
--- what a lookup found, behind its kind
+-- what a lookup found, after its kind
 abbrev pub lookup_text : Lookup → List ℕ
 lookup_text (lookup.Done port) = codes "\"Done\", \"port\": " ++ decimal port
 lookup_text (lookup.Retry kind name port) = codes "\"Retry\", \"retry\": \"" ++ (retry_name kind ++ (codes "\", \"name\": " ++ (quoted name ++ port_text port)))
@@ -35,11 +35,11 @@ unfoldable pub rest_text : Stat → List ℕ
 rest_text s =
     codes ", \"links\": " ++ (decimal s.links ++ (codes ", \"size\": " ++ (decimal s.size ++ (codes ", \"passive\": " ++ (truth s.passive ++ (codes ", \"active\": " ++ truth s.active))))))
 
--- attributes, behind the kind of the reply
+-- attributes, after the kind of the reply
 abbrev pub stat_text : Stat → List ℕ
 stat_text s = codes "\"Stat\", \"node\": \"" ++ (kind_name s.kind ++ (34 ∷ owner_text s ++ (mode_text s.mode ++ rest_text s)))
 
--- an error as a field, behind the kind of the reply
+-- an error as a field, after the kind of the reply
 abbrev pub error_text : List ℕ → List ℕ → List ℕ
 error_text kind name = kind ++ (codes ", \"error\": \"" ++ (name ++ 34 ∷ []))
 

@@ -17,7 +17,7 @@ use hurd_trans_iface::Server;
 use hurd_world::{Reply, World};
 use std::alloc::{AllocError, Global};
 
-/// A call's line with its reply, on a line. An error is want of memory.
+/// A call's line with its reply, on a line. Fails only if memory runs out.
 fn vector_of<S: Server>(alloc: Global, line: &[u8], reply: &Reply<S>) -> Result<Vec<u8>, AllocError>
     ensures { IfOk result (λ vector. vector.items ≡ vector_of line.now (reply_by S.meaning reply.now)) }
 {
@@ -30,7 +30,7 @@ fn vector_of<S: Server>(alloc: Global, line: &[u8], reply: &Reply<S>) -> Result<
     Ok(vector)
 }
 
-/// Makes a call with the server that its words make, and gives its vector. An error is want of memory.
+/// Makes a call with the server that its words make, and gives its vector. Fails only if memory runs out.
 pub(crate) fn vector<S: Server>(
     world: &mut World<S>,
     alloc: Global,

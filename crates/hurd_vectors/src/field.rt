@@ -38,17 +38,17 @@ pub enum Field {
 /// What sort of value a field has.
 #[derive(Clone, Copy, Debug, PartialEq, Eq)]
 pub enum Sort {
-    /// Digits, behind `-` where the number is below zero.
+    /// Digits, after `-` where the number is below zero.
     Number,
     /// A word as it is.
     Plain,
-    /// Any bytes, behind `=`.
+    /// Any bytes, after `=`.
     Bytes,
     /// Names joined by commas, or `-` for none.
     Names,
     /// Numbers joined by commas, or `-` for none.
     Numbers,
-    /// All words before `box`, each of them bytes behind `=`.
+    /// All words before `box`, each of them bytes after `=`.
     Texts,
 }
 

@@ -21,7 +21,7 @@ fn is_task(words: &[Bytes]) -> bool
     }
 }
 
-/// Prints the ids of a task, by the words of its line, behind a comma but where it is the first.
+/// Prints the ids of a task, by the words of its line, after a comma but where it is the first.
 fn push_ids(
     alloc: Global,
     text: &mut Vec<u8>,
@@ -72,7 +72,7 @@ fn push_tasks(alloc: Global, text: &mut Vec<u8>, lines: &[&[u8]]) -> Result<(), 
     Ok(())
 }
 
-/// The tasks of a list, on a line. An error is want of memory.
+/// The tasks of a list, on a line. Fails only if memory runs out.
 pub(crate) fn header_of(alloc: Global, list: &[u8]) -> Result<Vec<u8>, AllocError>
     ensures { IfOk result (λ line. line.items ≡ header_of list.now) }
 {

@@ -146,7 +146,7 @@ fn push_below(text: &mut Vec<u8>, amount: u64) -> Result<(), AllocError>
     push_decimal(text, amount)
 }
 
-/// Prints digits as a number, behind `-` where it is below zero.
+/// Prints digits as a number, after `-` where it is below zero.
 pub(crate) fn push_number(text: &mut Vec<u8>, word: &[u8]) -> Result<(), AllocError>
     ensures { OnOk result (text.new.items ≡ text.old.items ++ number word.now) }
 {
@@ -156,7 +156,7 @@ pub(crate) fn push_number(text: &mut Vec<u8>, word: &[u8]) -> Result<(), AllocEr
     }
 }
 
-/// Prints numbers, each behind a comma.
+/// Prints numbers, each after a comma.
 fn push_more_numbers(text: &mut Vec<u8>, words: &[&[u8]]) -> Result<(), AllocError>
     ensures { OnOk result (text.new.items ≡ text.old.items ++ more_numbers (said words.now)) }
 {
@@ -166,7 +166,7 @@ fn push_more_numbers(text: &mut Vec<u8>, words: &[&[u8]]) -> Result<(), AllocErr
     Ok(())
 }
 
-/// Prints a number behind a comma.
+/// Prints a number after a comma.
 fn push_next_number(text: &mut Vec<u8>, word: &[u8]) -> Result<(), AllocError>
     ensures { OnOk result (text.new.items ≡ text.old.items ++ (codes ", " ++ natural word.now)) }
 {
@@ -200,7 +200,7 @@ pub(crate) fn push_numbers(alloc: Global, text: &mut Vec<u8>, word: &[u8]) -> Re
     Ok(())
 }
 
-/// The bytes behind so many.
+/// The bytes after so many.
 pub(crate) fn behind(bytes: &[u8], skip: usize) -> &[u8]
     ensures { result.now ≡ drop skip bytes.now }
 {
@@ -211,7 +211,7 @@ pub(crate) fn behind(bytes: &[u8], skip: usize) -> &[u8]
     }
 }
 
-/// Prints a text without so many of its first bytes, behind a comma.
+/// Prints a text without so many of its first bytes, after a comma.
 fn push_next_text(text: &mut Vec<u8>, skip: usize, bytes: &[u8]) -> Result<(), AllocError>
     ensures { OnOk result (text.new.items ≡ text.old.items ++ (codes ", " ++ quoted (drop skip bytes.now))) }
 {
@@ -219,7 +219,7 @@ fn push_next_text(text: &mut Vec<u8>, skip: usize, bytes: &[u8]) -> Result<(), A
     push_quoted(text, behind(bytes, skip))
 }
 
-/// Prints texts without so many of their first bytes, each behind a comma.
+/// Prints texts without so many of their first bytes, each after a comma.
 fn push_more_texts(text: &mut Vec<u8>, skip: usize, items: &[Bytes]) -> Result<(), AllocError>
     ensures { OnOk result (text.new.items ≡ text.old.items ++ more_texts skip items.now) }
 {

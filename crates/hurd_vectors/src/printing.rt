@@ -46,7 +46,7 @@ fn begun_calls(alloc: Global, text: &[u8]) -> Result<Calls, Fault>
     })
 }
 
-/// Makes the next call, and gives its vector; none where all were made. An error is want of memory.
+/// Makes the next call, and gives its vector; none where all were made. Fails only if memory runs out.
 fn next_vector(alloc: Global, calls: &mut Calls) -> Result<Option<Vec<u8>>, AllocError>
     ensures { IfOk result (λ vector. Goes calls.old (option_map (λ (v : Vec ℕ Global). v.items) vector) calls.new) }
 {

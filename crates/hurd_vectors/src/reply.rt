@@ -15,7 +15,7 @@ use hurd_trans_iface::Server;
 use hurd_words::printing::push_mode;
 use std::alloc::{AllocError, Global};
 
-/// Prints a number behind a text.
+/// Prints a number after a text.
 fn push_behind(text: &mut Vec<u8>, front: &[u8], number: u64) -> Result<(), AllocError>
     ensures { OnOk result (text.new.items ≡ text.old.items ++ (front.now ++ decimal number)) }
 {
@@ -23,7 +23,7 @@ fn push_behind(text: &mut Vec<u8>, front: &[u8], number: u64) -> Result<(), Allo
     push_decimal(text, number)
 }
 
-/// Prints a port as a field behind others, where there is one.
+/// Prints a port as a field after others, where there is one.
 fn push_port(text: &mut Vec<u8>, port: Option<u64>) -> Result<(), AllocError>
     ensures { OnOk result (text.new.items ≡ text.old.items ++ port_text port) }
 {
@@ -109,7 +109,7 @@ fn push_modes(alloc: Global, text: &mut Vec<u8>, flags: OpenFlags) -> Result<(),
     push_names(text, word.as_slice())
 }
 
-/// Prints an error as a field, behind the kind of the reply.
+/// Prints an error as a field, after the kind of the reply.
 fn push_error(text: &mut Vec<u8>, kind: &[u8], errno: Errno) -> Result<(), AllocError>
     ensures { OnOk result (text.new.items ≡ text.old.items ++ error_text kind.now (name_of errno)) }
 {

@@ -12,7 +12,7 @@ use hurd_lists::{verb_named, words_of};
 use hurd_words::fault::ReadFault;
 use std::alloc::{AllocError, Global};
 
-/// The words of a line, with their escapes resolved; a bad one has none. An error is want of memory.
+/// The words of a line, with their escapes resolved; a bad one has none. Fails only if memory runs out.
 pub(crate) fn line_words(alloc: Global, line: &[u8]) -> Result<Vec<Bytes>, AllocError>
     ensures { IfOk result (λ words. words.items ≡ line_words line.now) }
 {
@@ -50,7 +50,7 @@ fn before_box(words: &[Bytes]) -> &[Bytes]
     }
 }
 
-/// The words behind `box`, where it stands.
+/// The words after `box`, where it stands.
 fn behind_box(words: &[Bytes]) -> Option<&[Bytes]>
     ensures { option_map (λ ws. ws.now) result ≡ behind_box words.now }
 {
@@ -77,7 +77,7 @@ fn push_value(
     }
 }
 
-/// The words behind a value of a sort.
+/// The words after a value of a sort.
 fn words_behind(sort: Sort, words: &[Bytes]) -> &[Bytes]
     ensures { result.now ≡ words_behind sort words.now }
 {
@@ -118,7 +118,7 @@ fn push_server(text: &mut Vec<u8>, words: &[Bytes]) -> Result<(), AllocError>
     Ok(())
 }
 
-/// Prints fields with the words that are their values, and behind them the words of a server.
+/// Prints fields with the words that are their values, and after them the words of a server.
 fn push_fields(
     alloc: Global,
     text: &mut Vec<u8>,

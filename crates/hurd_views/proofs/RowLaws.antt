@@ -47,7 +47,7 @@ row_is_got (e ∷ es) n = go (same_name n e.0) refl (row_is_got es n)
     go true is rest = rw is refl
     go false is rest = rw is rest
 
--- the row of a name goes behind the others, unless it is there
+-- the row of a name goes after the others, unless it is there
 put_row : (w : World) (v : Sight) (n : Name) (ms : List Name) → insert_entry same_name (rows_for w v ms) n (row_of w v n) ≡ rows_for w v (named_more n ms)
 put_row w v n [] = refl
 put_row w v n (m ∷ ms) = go (same_name n m) refl (put_row w v n ms)

@@ -82,7 +82,7 @@ module _ {S : ℕ → Bool} {v w : World} (x : Agree S v w) where
     ],
   )
 
-  -- what is read of a server that is known, but for its text, is the same
+  -- what is read of a server that is known, except for its text, is the same
   read_known : {P : Type 0} (read : Option ServerInfo → P) → ((i : ServerInfo) → read (Some (faced i)) ≡ read (Some i)) → (s : Name) → Knows S v s → read (server_at w s) ≡ read (server_at v s)
   read_known read blind s knows = face_reads read blind (server_at v s) (server_at w s) (face_known x s knows)
 

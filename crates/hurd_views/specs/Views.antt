@@ -126,7 +126,7 @@ or_no_row (Some r) = r
 abbrev pub rows_for : World → Sight → List Name → List (Name × Row)
 rows_for w v ns = map (λ (n : Name). (n, row_of w v n)) ns
 
--- names are filled in with what is seen under them, each behind those that are there, unless it is one of them
+-- names are filled in with what is seen under them, each after those that are there, unless it is one of them
 abbrev pub Fills : World → Sight → List Name → List (Name × Row) → List (Name × Row) → Type 0
 Fills w v ns old new = (ms : List Name) → old ≡ rows_for w v ms → new ≡ rows_for w v (named ns ms)
 

@@ -10,7 +10,7 @@ name_here Entries word words is = absurd (cc is)
 name_here Sign word words is = absurd (cc is)
 name_here Name word words is = refl
 
--- or it is behind this word
+-- or it is after this word
 pub name_behind : (seek : Seek) (word : List ℕ) (words : List (List ℕ)) → is_name seek ≡ false → child_from seek (word ∷ words) ≡ child_from (next_seek seek word) words
 name_behind Entries word words is = refl
 name_behind Sign word words is = refl

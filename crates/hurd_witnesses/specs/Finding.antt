@@ -6,7 +6,7 @@ use Rattle.hurd_terminal.specs.Faults.{IsFront}
 use Rattle.hurd_terminal.specs.Runs.{Program}
 use Rattle.hurd_witnesses.specs.Witnesses.{IsWitnessed}
 
--- what those learn of a text whom a word names is printed, and behind each line of it how they could be told it
+-- what those that WHO names learn of a text is printed, and after each line of it how they could be told it
 abbrev pub Found : Sort → List ℕ → List ℕ → List ℕ → Type 0
 Found sort word text printed = (learned : List ℕ) × (learning sort None word).IsAll text learned × IsWitnessed sort word text learned printed
 

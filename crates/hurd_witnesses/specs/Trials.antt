@@ -56,7 +56,7 @@ abbrev pub wants_sign : Seek → Bool
 wants_sign Sign = true
 wants_sign _ = false
 
--- what is looked for behind a word that is no name
+-- what is looked for after a word that is no name
 abbrev pub next_seek : Seek → List ℕ → Seek
 next_seek seek word = if wants_sign seek && is_sign word then Name else if bytes_eq word (codes "entries") then Sign else Entries
 

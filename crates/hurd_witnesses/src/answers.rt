@@ -10,7 +10,7 @@ use hurd_terminal::Fault;
 use hurd_words::answers::Answer;
 use std::alloc::{AllocError, Global};
 
-/// The last part that a text has still to tell; none where all were told. An error is want of memory.
+/// The last part that a text has still to tell; none where all were told. Fails only if memory runs out.
 fn last_part<T: Telling>(alloc: Global, telling: &mut T) -> Result<Option<Answer>, AllocError>
     ensures { IfOk result (λ part. part ≡ last_or None (answers (T.way telling.old).left)) }
 {
@@ -21,7 +21,7 @@ fn last_part<T: Telling>(alloc: Global, telling: &mut T) -> Result<Option<Answer
     Ok(last)
 }
 
-/// What a text tells that was not begun: nothing. An error is want of memory.
+/// What a text tells that was not begun: nothing. Fails only if memory runs out.
 fn nothing_told(fault: Fault) -> Result<Option<Answer>, AllocError>
     ensures { IfOk result (λ told. (told ≡ None) × (fault ≢ Fault.Memory)) }
 {
@@ -33,7 +33,7 @@ fn nothing_told(fault: Fault) -> Result<Option<Answer>, AllocError>
     }
 }
 
-/// What the last command of a text is told; nothing where the text is bad. An error is want of memory.
+/// What the last command of a text is told; nothing where the text is bad. Fails only if memory runs out.
 pub(crate) fn answer<T: Telling>(alloc: Global, text: &[u8]) -> Result<Option<Answer>, AllocError>
     ensures { IfOk result (λ told. told ≡ answer_of T.sort text.now) }
 {

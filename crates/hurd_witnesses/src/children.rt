@@ -7,7 +7,7 @@ use hurd_creds::Bytes;
 use hurd_words::words::pieces;
 use std::alloc::{AllocError, Global};
 
-/// What is looked for among the words of a line: the word `entries`, a sign right behind it, and the name behind that.
+/// What is looked for among the words of a line: the word `entries`, a sign right after it, and the name after that.
 #[derive(Clone, Copy, Debug)]
 pub enum Seek {
     Entries,
@@ -29,7 +29,7 @@ fn is_sign(word: &[u8]) -> bool
     word == b"+".as_slice() || word == b"-".as_slice()
 }
 
-/// What is looked for behind a word that is no name.
+/// What is looked for after a word that is no name.
 fn next_seek(seek: Seek, word: &[u8]) -> Seek
     ensures { result ≡ next_seek seek word.now }
 {
@@ -42,7 +42,7 @@ fn next_seek(seek: Seek, word: &[u8]) -> Seek
     }
 }
 
-/// The name of the first entry that a line tells is new or gone, as it is spelled; nothing where it tells of none. An error is want of memory.
+/// The name of the first entry that a line tells is new or gone, as it is spelled; nothing where it tells of none. Fails only if memory runs out.
 pub(crate) fn child_of(alloc: Global, line: &[u8]) -> Result<Bytes, AllocError>
     ensures { IfOk result (λ name. name ≡ child_of line.now) }
 {

@@ -25,7 +25,7 @@ fn kept_fault(fault: Fault) -> Fault
     }
 }
 
-/// What is printed of a text for those whom a word names. Faults as of `learn_text`, but `Memory` for `Write`.
+/// What is printed of a text for those that WHO names. Faults as of `learn_text`, but `Memory` for `Write`.
 fn learned<T: Telling>(alloc: Global, word: &str, text: &[u8]) -> Result<Vec<u8>, Fault>
     ensures ok { IfOk result (λ printed. IsTaken (learning T.sort None word.now) text.now × (learning T.sort None word.now).IsAll text.now printed.items) }
     ensures err { IfErr result (λ fault. (fault ≢ Fault.Read) × (fault ≢ Fault.Write) × Prints (finding T.sort word.now) text.now (Err fault) []) }
@@ -37,7 +37,7 @@ fn learned<T: Telling>(alloc: Global, word: &str, text: &[u8]) -> Result<Vec<u8>
     }
 }
 
-/// By how many lines that say something the parts of a text are preceded. An error is want of memory, or a bad text.
+/// By how many lines that say something the parts of a text are preceded. Fails if memory runs out, or if the text is bad.
 fn lines_before<T: Telling>(alloc: Global, text: &[u8]) -> Result<usize, AllocError>
     ensures { IfOk result (λ lines. lines ≡ T.sort.heading text.now - 1) }
 {
@@ -47,7 +47,7 @@ fn lines_before<T: Telling>(alloc: Global, text: &[u8]) -> Result<usize, AllocEr
     }
 }
 
-/// What was printed of a text, with how those whom a word names could be told each thing. An error is want of memory, or a bad text.
+/// What was printed of a text, with how those that WHO names could be told each thing. Fails if memory runs out, or if the text is bad.
 fn witnessed_text<T: Telling>(
     alloc: Global,
     word: &str,
@@ -61,8 +61,8 @@ fn witnessed_text<T: Telling>(
     witnessed::<T>(alloc, &hunt, unended(learned))
 }
 
-/// Prints what `learn_text` prints, and behind each line of what those learn whom a word names how they could be told it: a command of theirs that is
-/// answered otherwise behind what was done than before it, with both answers; or how many were tried in vain.
+/// Prints what `learn_text` prints, and after each line of what those that WHO names learn how they could be told it: a command of theirs that is
+/// answered otherwise after what was done than before it, with both answers; or how many were tried in vain.
 ///
 /// `Bad` with the line at which it is bad, `Boot` with its world's refusal, `Unknown` where somebody is named who isn't in it; `Memory`: then nothing is
 /// printed. `Write`: then a front is.

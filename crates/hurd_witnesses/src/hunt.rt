@@ -33,7 +33,7 @@ pub(crate) fn push_line(text: &mut Vec<u8>, line: &[u8]) -> Result<(), AllocErro
     Ok(())
 }
 
-/// The lines of a text that say something. An error is want of memory.
+/// The lines of a text that say something. Fails only if memory runs out.
 fn said_lines(alloc: Global, text: &[u8]) -> Result<Vec<Bytes>, AllocError>
     ensures { IfOk result (λ lines. lines.items ≡ said_of (lines_of text.now)) }
 {
@@ -47,7 +47,7 @@ fn said_lines(alloc: Global, text: &[u8]) -> Result<Vec<Bytes>, AllocError>
     Ok(said)
 }
 
-/// The names in a word between commas. An error is want of memory.
+/// The names in a word between commas. Fails only if memory runs out.
 fn names_in(alloc: Global, word: &str) -> Result<Vec<Bytes>, AllocError>
     ensures { IfOk result (λ names. names.items ≡ slice_split (λ (b : ℕ). b == 44) word.now) }
 {
@@ -59,7 +59,7 @@ fn names_in(alloc: Global, word: &str) -> Result<Vec<Bytes>, AllocError>
     Ok(names)
 }
 
-/// What stands in front of what so many learn who are called so. An error is want of memory.
+/// What stands in front of what so many learn who are called so. Fails only if memory runs out.
 fn head_of(alloc: Global, who: &str, users: usize) -> Result<Bytes, AllocError>
     ensures { IfOk result (λ head. head ≡ head_of who.now users) }
 {
@@ -83,7 +83,7 @@ fn first(lines: &[Bytes], count: usize) -> &[Bytes]
     }
 }
 
-/// The text of the first of some lines. An error is want of memory.
+/// The text of the first of some lines. Fails only if memory runs out.
 pub(crate) fn text_of(alloc: Global, lines: &[Bytes], count: usize) -> Result<Vec<u8>, AllocError>
     ensures { IfOk result (λ text. text.items ≡ text_of (take count lines.now)) }
 {
@@ -94,7 +94,7 @@ pub(crate) fn text_of(alloc: Global, lines: &[Bytes], count: usize) -> Result<Ve
     Ok(text)
 }
 
-/// Lines that are copied. An error is want of memory.
+/// Lines that are copied. Fails only if memory runs out.
 fn copied(alloc: Global, lines: &[Bytes]) -> Result<Vec<Bytes>, AllocError>
     ensures { IfOk result (λ copies. copies.items ≡ lines.now) }
 {
@@ -105,7 +105,7 @@ fn copied(alloc: Global, lines: &[Bytes]) -> Result<Vec<Bytes>, AllocError>
     Ok(copies)
 }
 
-/// Some lines without the first, as many as there are up to a number. An error is want of memory.
+/// Some lines without the first, as many as there are up to a number. Fails only if memory runs out.
 fn behind(alloc: Global, lines: &[Bytes], count: usize) -> Result<Vec<Bytes>, AllocError>
     ensures { IfOk result (λ behind. behind.items ≡ drop count lines.now) }
 {
@@ -115,7 +115,7 @@ fn behind(alloc: Global, lines: &[Bytes], count: usize) -> Result<Vec<Bytes>, Al
     }
 }
 
-/// Those whom a word names, and a script in which so many lines that say something stand before its commands. An error is want of memory.
+/// Those that WHO names, and a script in which so many lines that say something stand before its commands. Fails only if memory runs out.
 pub(crate) fn hunt_of(
     alloc: Global,
     who: &str,

@@ -10,7 +10,7 @@ pub fn witnesses_tell()
     ensures { WitnessTells }
 {}
 
-/// A law: of a text one text is printed for those whom a word names.
+/// A law: of a text one text is printed for those that WHO names.
 pub fn one_finding_is_printed()
     ensures { (sort : Sort) (word : List ℕ) → PrintsOneText (finding sort word) }
 {}

@@ -1,6 +1,6 @@
 //! How some users could be told what they learn: for each line of it a command of theirs that gets a different reply before and after what was done.
 //!
-//! `find_text` prints what `learn_text` of `hurd_teaching` prints, and behind each line of what is learned a witness: a command of one of these users on the
+//! `find_text` prints what `learn_text` of `hurd_teaching` prints, and after each line of what is learned a witness: a command of one of these users on the
 //! place that the line names, with both answers. Each command is tried at the end of two scripts, of which one ends before what was done and the other with
 //! it; both are made anew for each trial, since no world can be copied. At most 16 commands are tried of a line.
 //!

@@ -64,7 +64,7 @@ fn made_behind(made: usize, line: &[u8]) -> usize
     if line.is_empty() { made + 1 } else { made }
 }
 
-/// What is printed, each line of what is learned with how somebody could be told it. An error is want of memory.
+/// What is printed, each line of what is learned with how somebody could be told it. Fails only if memory runs out.
 pub(crate) fn witnessed<T: Telling>(
     alloc: Global,
     hunt: &Hunt,

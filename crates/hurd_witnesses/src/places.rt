@@ -7,7 +7,7 @@ use hurd_creds::Bytes;
 use hurd_words::words::pieces;
 use std::alloc::{AllocError, Global};
 
-/// Where a byte of a spelled place stands: in no escape, behind a backslash, and behind `\x` as its first digit or its second, behind that.
+/// Where a byte of a spelled place stands: in no escape, after a backslash, and after `\x` as its first digit or its second, after that.
 #[derive(Clone, Copy, Debug)]
 pub enum Stand {
     Plain,
@@ -16,7 +16,7 @@ pub enum Stand {
     Second(u8),
 }
 
-/// A part of a line between bytes of one kind, counted from 0; nothing where there are fewer. An error is want of memory.
+/// A part of a line between bytes of one kind, counted from 0; nothing where there are fewer. Fails only if memory runs out.
 pub(crate) fn part_at<'a>(
     alloc: Global,
     line: &'a [u8],
@@ -32,7 +32,7 @@ pub(crate) fn part_at<'a>(
     }
 }
 
-/// Where something is that a line tells, up to a space or a bracket. An error is want of memory.
+/// Where something is that a line tells, up to a space or a bracket. Fails only if memory runs out.
 fn place_of<'a>(alloc: Global, line: &'a [u8]) -> Result<&'a [u8], AllocError>
     ensures { IfOk result (λ place. place.now ≡ place_of line.entry.now) }
 {
@@ -96,7 +96,7 @@ fn take_byte(text: &mut Vec<u8>, stand: Stand, byte: u8) -> Result<Stand, AllocE
     }
 }
 
-/// A place as a script writes it. An error is want of memory.
+/// A place as a script writes it. Fails only if memory runs out.
 fn scripted(alloc: Global, place: &[u8]) -> Result<Vec<u8>, AllocError>
     ensures { IfOk result (λ word. word.items ≡ scripted place.now) }
 {
@@ -115,7 +115,7 @@ pub(crate) fn is_path(place: &[u8]) -> bool
     !place.is_empty() && place[0] == b'/'
 }
 
-/// Where something is that a line tells, as a script writes it. An error is want of memory.
+/// Where something is that a line tells, as a script writes it. Fails only if memory runs out.
 pub(crate) fn word_in(alloc: Global, line: &[u8]) -> Result<Bytes, AllocError>
     ensures { IfOk result (λ word. word ≡ scripted (place_of line.now)) }
 {
@@ -123,7 +123,7 @@ pub(crate) fn word_in(alloc: Global, line: &[u8]) -> Result<Bytes, AllocError>
     Ok(Bytes::new(scripted(alloc, place)?))
 }
 
-/// The name of the first entry that a line tells is new or gone, as a script writes it. An error is want of memory.
+/// The name of the first entry that a line tells is new or gone, as a script writes it. Fails only if memory runs out.
 pub(crate) fn child_in(alloc: Global, line: &[u8]) -> Result<Bytes, AllocError>
     ensures { IfOk result (λ name. name ≡ scripted (child_of line.now)) }
 {

@@ -26,7 +26,7 @@ fn push_command(
     Ok(())
 }
 
-/// The path of an entry of a directory. An error is want of memory.
+/// The path of an entry of a directory. Fails only if memory runs out.
 fn child_path(alloc: Global, path: &[u8], name: &[u8]) -> Result<Vec<u8>, AllocError>
     ensures { IfOk result (λ text. text.items ≡ child_path path.now name.now) }
 {
@@ -78,7 +78,7 @@ fn push_acts(alloc: Global, commands: &mut Vec<Bytes>, path: &[u8]) -> Result<()
     Ok(())
 }
 
-/// What can be asked of a node by its path, and of an entry of it. An error is want of memory.
+/// What can be asked of a node by its path, and of an entry of it. Fails only if memory runs out.
 fn commands_on(alloc: Global, path: &[u8], name: &[u8]) -> Result<Vec<Bytes>, AllocError>
     ensures { IfOk result (λ commands. commands.items ≡ commands_on path.now name.now) }
 {
@@ -89,7 +89,7 @@ fn commands_on(alloc: Global, path: &[u8], name: &[u8]) -> Result<Vec<Bytes>, Al
     Ok(commands)
 }
 
-/// A line of a script: a user's command. An error is want of memory.
+/// A line of a script: a user's command. Fails only if memory runs out.
 fn line_by(alloc: Global, command: &[u8], user: &[u8]) -> Result<Bytes, AllocError>
     ensures { IfOk result (λ line. line ≡ line_by command.now user.now) }
 {
@@ -114,7 +114,7 @@ fn push_lines(
     Ok(())
 }
 
-/// Each command by each of these users. An error is want of memory.
+/// Each command by each of these users. Fails only if memory runs out.
 fn lines_by(alloc: Global, users: &[Bytes], commands: &[Bytes]) -> Result<Vec<Bytes>, AllocError>
     ensures { IfOk result (λ lines. lines.items ≡ lines_by users.now commands.now) }
 {
@@ -125,7 +125,7 @@ fn lines_by(alloc: Global, users: &[Bytes], commands: &[Bytes]) -> Result<Vec<By
     Ok(lines)
 }
 
-/// The first 16 of them; none where the place is no path. An error is want of memory.
+/// The first 16 of them; none where the place is no path. Fails only if memory runs out.
 fn trials_on(
     alloc: Global,
     users: &[Bytes],
@@ -143,7 +143,7 @@ fn trials_on(
     Ok(trials)
 }
 
-/// What is tried of what a line tells. An error is want of memory.
+/// What is tried of what a line tells. Fails only if memory runs out.
 pub(crate) fn trials_of(
     alloc: Global,
     users: &[Bytes],

@@ -23,7 +23,7 @@ pub struct Witness {
     pub after: Answer,
 }
 
-/// What a line is told as the last of a text; nothing where it is bad there. An error is want of memory.
+/// What a line is told as the last of a text; nothing where it is bad there. Fails only if memory runs out.
 fn answer_behind<T: Telling>(
     alloc: Global,
     text: &[u8],
@@ -70,7 +70,7 @@ fn told_apart(
     }))
 }
 
-/// Whether a line is a witness where it is added to two texts. An error is want of memory.
+/// Whether a line is a witness where it is added to two texts. Fails only if memory runs out.
 fn tried<T: Telling>(
     alloc: Global,
     before: &[u8],
@@ -84,7 +84,7 @@ fn tried<T: Telling>(
     told_apart(alloc, trial, first, second)
 }
 
-/// The first of some trials that is one. An error is want of memory.
+/// The first of some trials that is one. Fails only if memory runs out.
 fn witness_of<T: Telling>(
     alloc: Global,
     before: &[u8],
@@ -101,7 +101,7 @@ fn witness_of<T: Telling>(
     Ok(None)
 }
 
-/// The script up to a command. An error is want of memory.
+/// The script up to a command. Fails only if memory runs out.
 fn text_before(alloc: Global, hunt: &Hunt, made: usize) -> Result<Vec<u8>, AllocError>
     ensures { IfOk result (λ text. text.items ≡ text_before hunt.now made) }
 {
@@ -111,7 +111,7 @@ fn text_before(alloc: Global, hunt: &Hunt, made: usize) -> Result<Vec<u8>, Alloc
     Ok(text)
 }
 
-/// The first trial that is answered otherwise behind the command before which so many stand. An error is want of memory.
+/// The first trial that is answered otherwise after the command before which so many stand. Fails only if memory runs out.
 fn witness_by<T: Telling>(
     alloc: Global,
     hunt: &Hunt,

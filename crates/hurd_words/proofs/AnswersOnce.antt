@@ -23,7 +23,7 @@ pub record BeginsBelow (k : ℕ) (r : List ℕ) : Type 0 where
   pub low : first ≤ k
   pub is : r ≡ first ∷ rest
 
--- sentences and empty lines are quiet; what stands after what was put out is quiet, or begins with an exclamation mark
+-- sentences and empty lines are quiet; what comes after what was put out is quiet, or begins with an exclamation mark
 abbrev pub IsQuiet : List ℕ → Type 0
 IsQuiet r = BeginsBelow 32 r
 
@@ -81,7 +81,7 @@ spread_once [] (c ∷ q) r s x y is = absurd (ended c q r s x is)
 spread_once (b ∷ p) [] r s x y is = absurd (ended b p s r y (sym is))
 spread_once (b ∷ p) (c ∷ q) r s x y is = heads_once b c p q r s (spread_once p q r s x y) is
 
--- a name has a first line, and more stands after it
+-- a name has a first line, and more comes after it
 pub first_line : (p r : List ℕ) (d : ℕ) (t : List ℕ) → r ≡ d ∷ t → (l : List ℕ) × (c : ℕ) × (m : List ℕ) × (list_all (is_other 10) l ≡ true) × (spread p ++ r ≡ l ++ 10 ∷ c ∷ m)
 first_line [] r d t is = ([], d, t, refl, ap (λ (x : List ℕ). 10 ∷ x) is)
 first_line (b ∷ p) r d t is = elim (cases_Bool (b == 10)) [
@@ -130,7 +130,7 @@ line_begins : (b : ℕ) (t q r : List ℕ) → b ≢ 124 → 33 < b → IsAfter 
 line_begins b t [] r other high after is = loud 33 b t r high after (sym (text_ended r) ∙ is)
 line_begins b t (c ∷ q) r other high after is = other (sym (first_same 124 b _ _ (sym (text_more true c q r) ∙ is)).0)
 
--- a byte of a text is none of what stands after the text
+-- a byte of a text is none of what comes after the text
 not_ended : (due : Bool) (c : ℕ) (q r s : List ℕ) → IsAfter r → IsAfter s → marked_from due [] ++ r ≢ marked_from due (c ∷ q) ++ s
 not_ended true c q r s x y is = loud 33 124 _ r (omega arith) x (sym (text_ended r) ∙ (is ∙ text_more true c q s))
 not_ended false c q r s x y is =
@@ -245,7 +245,7 @@ content_clear : (a : Content) (r : List ℕ) → IsAfter r → NoColon (marked_c
 content_clear (Text p) r after t is = line_begins 58 t p r (λ e. omega (arith, e)) (omega arith) after is
 content_clear (Names ns) r after t is = names_clear ns r after t is
 
--- an answer, and what stands after it
+-- an answer, and what comes after it
 pub laid_marked : (a : Answer) (r : List ℕ) → marked a ++ r ≡ spread a.line ++ (marked_content a.content ++ (marked_ending a.ending ++ r))
 laid_marked a r =
     append_assoc (spread a.line) (marked_content a.content ++ marked_ending a.ending) r
@@ -262,14 +262,14 @@ marked_once a b r s x y is =
     let endings = ending_once a.ending b.ending r s x y contents.1 in
     (record { line = lines.0; content = contents.0; ending = endings.0 }, endings.1)
 
--- something stands after the line of an answer
+-- something comes after the line of an answer
 after_line : (a : Content) (r : List ℕ) → IsAfter r → (d : ℕ) × (t : List ℕ) × (marked_content a ++ r ≡ d ∷ t)
 after_line (Text []) r x = (x.first, x.rest, text_ended r ∙ x.is)
 after_line (Text (b ∷ bs)) r x = (124, _, text_more true b bs r)
 after_line (Names []) r x = (x.first, x.rest, x.is)
 after_line (Names (n ∷ ns)) r x = (124, _, names_more n ns r)
 
--- an answer has a first line, and more stands after it
+-- an answer has a first line, and more comes after it
 pub marked_line : (a : Answer) (r : List ℕ) → IsQuiet r → (l : List ℕ) × (c : ℕ) × (m : List ℕ) × (list_all (is_other 10) l ≡ true) × (marked a ++ r ≡ l ++ 10 ∷ c ∷ m)
 marked_line a r x =
     let after = after_line a.content (marked_ending a.ending ++ r) (ending_after a.ending r x) in

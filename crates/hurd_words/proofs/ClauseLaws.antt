@@ -49,7 +49,7 @@ mapped_more : (ps : List Part) (p : Part) → map part_text (ps ++ p ∷ []) ≡
 mapped_more [] p = refl
 mapped_more (q ∷ ps) p = ap (λ (ts : List (List ℕ)). part_text q ∷ ts) (mapped_more ps p)
 
--- a part more, behind a comma
+-- a part more, after a comma
 pub clause_more : (text part : List ℕ) → IsClauseText text → fits part ≡ true → IsClauseText (text ++ (codes ", " ++ part))
 clause_more text part ([], is, same) fit = absurd (true≢false (sym is))
 clause_more text part (p ∷ ps, is, same) fit =

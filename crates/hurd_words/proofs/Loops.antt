@@ -19,7 +19,7 @@ length-said items = length-map items (λ (x : Bor (List ℕ)). x.now)
 pub piece_at-said : (items : List (Bor (List ℕ))) (i : ℕ) → i < length items → piece_at items i ≡ get_or (said items) i []
 piece_at-said items i h = sym (get_or-map (λ (x : Bor (List ℕ)). x.now) items i nothing [] h)
 
--- the next piece, and those behind it
+-- the next piece, and those after it
 pub next_piece : {Y : Type 0} (F : List (List ℕ) → Y) (items : List (Bor (List ℕ))) (i : ℕ) → i < length items
     → F (drop i (said items)) ≡ F (piece_at items i ∷ drop (i + 1) (said items))
 next_piece F items i h =

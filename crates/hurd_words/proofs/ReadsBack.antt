@@ -10,7 +10,7 @@ use Rattle.hurd_words.proofs.Bytes.{cut, first_same, is_other}
 use Rattle.hurd_words.proofs.AnswersOnce.{IsQuiet, marked_line, marked_once}
 use Rattle.hurd_words.proofs.SentenceLaws.{NoneOf, lines_once, opened}
 
--- what is said in a turn, and what stands behind it
+-- what is said in a turn, and what comes after it
 abbrev pub said : List ℕ → List ℕ → Turn → List ℕ → List ℕ
 said learns sees t r = sentence_lines learns t.learned ++ (sentence_lines sees t.seen ++ 10 ∷ r)
 
@@ -29,7 +29,7 @@ lines_quiet who (v ∷ vs) r quiet = record { first = 32; rest = _; low = omega 
 said_quiet : (learns sees : List ℕ) (t : Turn) (r : List ℕ) → IsQuiet (said learns sees t r)
 said_quiet learns sees t r = lines_quiet learns t.learned _ (lines_quiet sees t.seen (10 ∷ r) (record { first = 10; rest = r; low = omega arith; is = refl }))
 
--- behind what is learned nothing more is
+-- after what is learned nothing more is
 none_behind : (learns sees : List ℕ) (vs : List Sentence) (r : List ℕ) → AreApart learns sees → NoneOf learns (sentence_lines sees vs ++ 10 ∷ r)
 none_behind learns sees [] r apart t is = let e = (first_same 10 32 _ _ is).0 in absurd (omega (arith, e))
 none_behind learns sees (v ∷ vs) r apart t is =
@@ -41,7 +41,7 @@ none_behind learns sees (v ∷ vs) r apart t is =
 none_after : (who r : List ℕ) → NoneOf who (10 ∷ r)
 none_after who r t is = let e = (first_same 10 32 r _ is).0 in absurd (omega (arith, e))
 
--- a turn, and what stands after it
+-- a turn, and what comes after it
 turn_once : (learns sees : List ℕ) (t u : Turn) (r s : List ℕ) → AreApart learns sees
     → are_sentences t.learned ≡ true → are_sentences t.seen ≡ true → are_sentences u.learned ≡ true → are_sentences u.seen ≡ true
     → turn_text learns sees t ++ r ≡ turn_text learns sees u ++ s → AreReadAlike t.answer u.answer × (t.learned ≡ u.learned) × (t.seen ≡ u.seen) × (r ≡ s)

@@ -7,7 +7,7 @@ use Rattle.hurd_words.specs.Turns.{SpellsBack}
 use Rattle.hurd_words.proofs.Bytes.{first_same}
 use Rattle.hurd_words.proofs.SpellingLaws.{more_bytes, no_bytes}
 
--- the shapes in which a byte is spelled: as it is, by a letter behind a backslash, and by its number
+-- the shapes in which a byte is spelled: as it is, by a letter after a backslash, and by its number
 pub data Shape (b : ℕ) : List ℕ → Type 0 where
   Plain : b ≢ 92 → Shape b (b ∷ [])
   Short : (c : ℕ) → ((c ≡ 115) × (b ≡ 32)) ⊎ (((c ≡ 110) × (b ≡ 10)) ⊎ ((c ≡ 92) × (b ≡ 92))) → Shape b (92 ∷ c ∷ [])
@@ -44,7 +44,7 @@ escaped_shape b = elim (cases_Bool (b == 32)) [
 shape_of : (path : Bool) (b : ℕ) → Shape b (spelled_byte path b)
 shape_of path b = elim (cases_Bool (is_joint path b)) [ inl is ↦ rw is Long | inr plain ↦ rw plain (escaped_shape b) ]
 
--- the letter behind a backslash, and the byte that it stands for
+-- the letter after a backslash, and the byte that it stands for
 abbrev pub Stands : ℕ → ℕ → Type 0
 Stands b c = ((c ≡ 115) × (b ≡ 32)) ⊎ (((c ≡ 110) × (b ≡ 10)) ⊎ ((c ≡ 92) × (b ≡ 92)))
 

@@ -6,7 +6,7 @@ use Rattle.hurd_words.specs.Words.{Spelling, escape_code, has_hidden_byte, is_hi
 use Rattle.hurd_words.proofs.Loops.{behind-push, nothing_in_front}
 use Rattle.hurd_words.specs.Reading.{behind, good_word}
 
--- a byte behind no backslash, and one behind a backslash
+-- a byte after no backslash, and one after a backslash
 pub at_backslash : (b : ℕ) (bs : List ℕ) → b ≡ 92 → text_after false (b ∷ bs) ≡ text_after true bs
 unfolding text_after
 at_backslash b bs e = rw (eq-eqb b 92 e) refl
@@ -42,12 +42,12 @@ visible spelling word h = rw h (none_where_none (spelling word))
 pub hidden_word : (spelling : Spelling) (word : List ℕ) → has_hidden_byte word ≡ true → good_word spelling word ≡ None
 hidden_word spelling word h = rw h refl
 
--- the next byte, and those behind it
+-- the next byte, and those after it
 pub next_visible : (word : List ℕ) (i : ℕ) → i < length word → has_hidden_byte (drop i word) ≡ false
     → (is_hidden (get_or word i 0) ≡ false) × (has_hidden_byte (drop (i + 1) word) ≡ false)
 next_visible word i h v = or_parts _ _ (sym (at_drop_more has_hidden_byte word i 0 h) ∙ v)
 
--- a way to spell by what stands behind a state, as behind a backslash
+-- a way to spell by what comes after a state, as after a backslash
 module _ {S : Type 0} (after : S → Spelling) where
   -- nothing was read yet
   pub word_begun : (state : S) (word bytes : List ℕ) → bytes ≡ [] → behind bytes (after state word) ≡ after state word

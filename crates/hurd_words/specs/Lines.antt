@@ -2,7 +2,7 @@
 use Rattle.std.specs.Prelude.{ℕ, ◌==◌, ◌||◌, Bool, false, if◌then◌else◌, List, [], ◌∷◌, ◌++◌, reverse}
 use Rattle.std.specs.List.{list_all, slice_split}
 
--- the parts of a script between its newlines, byte 0x0A; behind a last newline stands an empty one, which is skipped
+-- the parts of a script between its newlines, byte 0x0A; after a last newline stands an empty one, which is skipped
 abbrev pub lines_of : List ℕ → List (List ℕ)
 lines_of script = slice_split (λ b. b == 10) script
 

@@ -21,7 +21,7 @@ abbrev pub six_octal_digits : ℕ → List ℕ
 six_octal_digits n =
     octal_digit (n / 32768) ∷ octal_digit (n / 4096) ∷ octal_digit (n / 512) ∷ octal_digit (n / 64) ∷ octal_digit (n / 8) ∷ octal_digit n ∷ []
 
--- a number in decimal digits, behind a space
+-- a number in decimal digits, after a space
 abbrev pub spaced : ℕ → List ℕ
 spaced n = 32 ∷ decimal n
 
@@ -51,7 +51,7 @@ abbrev pub spelled : List ℕ → List ℕ
 spelled [] = []
 spelled (b ∷ bs) = spelled_byte b ++ spelled bs
 
--- words, each behind a space
+-- words, each after a space
 abbrev pub spaced_words : List (List ℕ) → List ℕ
 spaced_words [] = []
 spaced_words (word ∷ words) = 32 ∷ spelled word ++ spaced_words words

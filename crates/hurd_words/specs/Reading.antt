@@ -34,7 +34,7 @@ Takes read part before after = (rest : List (List ℕ)) → behind before (read 
 abbrev pub Refuses : {X : Type 0} → (List (List ℕ) → Option (List X)) → List ℕ → Type 0
 Refuses read part = (rest : List (List ℕ)) → read (part ∷ rest) ≡ None
 
--- a byte of a word is read, behind a backslash or not, whatever bytes follow it
+-- a byte of a word is read, after a backslash or not, whatever bytes follow it
 abbrev pub TakesByte : Bool → ℕ → Bool → List ℕ → List ℕ → Type 0
 TakesByte escaped byte next before after =
     (rest : List ℕ) → behind before (text_after escaped (byte ∷ rest)) ≡ behind after (text_after next rest)

@@ -27,7 +27,7 @@ spelled word = spelled_by false word
 abbrev pub spelled_name : List ℕ → List ℕ
 spelled_name name = spelled_by true name
 
--- words of users, each behind a space
+-- words of users, each after a space
 abbrev pub spelled_words : List (List ℕ) → List ℕ
 spelled_words [] = []
 spelled_words (word ∷ words) = (32 ∷ spelled word) ++ spelled_words words

@@ -18,7 +18,7 @@ begins_with word (w ∷ ws) = bytes_eq w word
 abbrev pub is_user_line : List ℕ → Bool
 is_user_line line = not (is_skipped line) && begins_with (codes "user") (words_of line)
 
--- the words behind `user`
+-- the words after `user`
 pub record Declaration : Type 0 where
   pub name : List ℕ
   pub uids : List ℕ
@@ -68,7 +68,7 @@ declared_ids user = ids_from (listed user.uids) (listed user.gids)
 abbrev pub has_room_for : List (List ℕ) → List ℕ → Bool
 has_room_for names name = is_user_name name && (not (is_taken names name) && nat_lt (length names) most_tasks)
 
--- whether a user may be declared behind those of these names
+-- whether a user may be declared after those of these names
 abbrev pub may_declare : List (List ℕ) → Declaration → Bool
 may_declare names user = has_room_for names user.name && is_some (declared_ids user)
 

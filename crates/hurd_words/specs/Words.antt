@@ -15,7 +15,7 @@ written_words line = filter has_bytes (slice_split (λ b. b == 32) line)
 abbrev pub is_hidden : ℕ → Bool
 is_hidden b = not (nat_le 33 b && nat_le b 126)
 
--- what a byte behind a backslash stands for: `s` a space, `n` a newline, and the backslash itself
+-- what a byte after a backslash stands for: `s` a space, `n` a newline, and the backslash itself
 abbrev pub escape_code : ℕ → Option ℕ
 escape_code b = if b == 115 then Some 32 else if b == 110 then Some 10 else if b == 92 then Some 92 else None
 
@@ -24,7 +24,7 @@ abbrev pub onto : Option ℕ → Option (List ℕ) → Option (List ℕ)
 onto (Some n) numbers = option_map (λ ns. n ∷ ns) numbers
 onto None _ = None
 
--- the text of a word, or of its rest behind a backslash
+-- the text of a word, or of its rest after a backslash
 unfoldable pub text_after : Bool → List ℕ → Option (List ℕ)
 text_after false [] = Some []
 text_after true [] = None

@@ -44,7 +44,7 @@ pub fn push_mode(line: &mut Vec<u8>, mode: Mode) -> Result<(), AllocError>
     Ok(())
 }
 
-/// Prints a number behind a space.
+/// Prints a number after a space.
 pub fn push_number(line: &mut Vec<u8>, number: u64) -> Result<(), AllocError>
     ensures { OnOk result (line.new.items ≡ line.old.items ++ spaced number) }
 {
@@ -116,7 +116,7 @@ pub fn push_word(line: &mut Vec<u8>, word: &[u8]) -> Result<(), AllocError>
     Ok(())
 }
 
-/// Prints words, each behind a space.
+/// Prints words, each after a space.
 pub fn push_words(line: &mut Vec<u8>, words: &[Bytes]) -> Result<(), AllocError>
     ensures { OnOk result (line.new.items ≡ line.old.items ++ spaced_words words.now) }
 {

@@ -52,21 +52,21 @@ fn push_bytes(text: &mut Vec<u8>, path: bool, bytes: &[u8]) -> Result<(), AllocE
     Ok(())
 }
 
-/// Adds a word of a user's: spaces, newlines, backslashes, commas, colons, brackets, `>` and all bytes but printable ASCII by escapes. An error is want of memory.
+/// Adds a word of a user's: spaces, newlines, backslashes, commas, colons, brackets, `>` and all bytes but printable ASCII by escapes. Fails only if memory runs out.
 pub fn push_spelled(text: &mut Vec<u8>, word: &[u8]) -> Result<(), AllocError>
     ensures { OnOk result (text.new.items ≡ text.old.items ++ spelled word.now) }
 {
     push_bytes(text, false, word)
 }
 
-/// Adds a name that stands in a path: slashes by escapes too. An error is want of memory.
+/// Adds a name that stands in a path: slashes by escapes too. Fails only if memory runs out.
 pub fn push_spelled_name(text: &mut Vec<u8>, name: &[u8]) -> Result<(), AllocError>
     ensures { OnOk result (text.new.items ≡ text.old.items ++ spelled_name name.now) }
 {
     push_bytes(text, true, name)
 }
 
-/// Adds words of a user's, each behind a space. An error is want of memory.
+/// Adds words of a user's, each after a space. Fails only if memory runs out.
 pub fn push_spelled_words(text: &mut Vec<u8>, words: &[Bytes]) -> Result<(), AllocError>
     ensures { OnOk result (text.new.items ≡ text.old.items ++ spelled_words words.now) }
 {

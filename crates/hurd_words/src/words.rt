@@ -64,7 +64,7 @@ pub fn has_hidden_byte(word: &[u8]) -> bool
     word.iter().any(|byte| !(*byte >= 33 && *byte <= 126))
 }
 
-/// Takes a byte of a word, behind a backslash or not, and answers whether the next stands behind one.
+/// Takes a byte of a word, after a backslash or not, and answers whether the next comes after one.
 fn take_byte(text: &mut String, escaped: bool, byte: u8) -> Result<bool, ReadFault>
     requires { is_hidden byte ≡ false }
     ensures ok { IfOk result (λ next. TakesByte escaped byte next (string_bytes text.old) (string_bytes text.new)) }
@@ -84,7 +84,7 @@ fn take_byte(text: &mut String, escaped: bool, byte: u8) -> Result<bool, ReadFau
     Ok(false)
 }
 
-/// What a byte behind a backslash stands for.
+/// What a byte after a backslash stands for.
 pub fn escape_code(byte: u8) -> Option<u8>
     ensures code { result ≡ escape_code byte }
     ensures ascii { IfSome result (λ b. b < 128) }

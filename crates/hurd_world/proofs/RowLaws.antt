@@ -25,7 +25,7 @@ use Rattle.hurd_world.specs.Held.{ComesBack, set_told, start_told, told_of}
 stepped : (w x : World) (t : ℕ) (c : Call) (reply : Reply) → reply ≡ reply_of w t c → x ≡ after w t c → Called w t c reply x
 stepped w x t c reply r e = inl (rw (r, e) refl)
 
--- one call of the world v, which is the core's w, with a reply and a world behind it, as the code has them
+-- one call of the world v, which is the core's w, with a reply and a world after it, as the code has them
 module _ {S : Type 0} (f : S → Meaning) (v w : World) (t : ℕ) (call : code.Call S) (reply : code_reply.Reply S) (y : World) (seen : w ≡ v) where
   -- what it owes
   abbrev Owes : Type 0

@@ -96,7 +96,7 @@ impl<S: Server> World<S> {
     }
 
     /// Makes one call of a task. A refused call changes nothing, and gives back the server that it brought, which some words made;
-    /// a refused `fsys_startup` alone gives up what the task was to start, but for want of memory. Nothing changes that a set of tasks
+    /// a refused `fsys_startup` alone gives up what the task was to start, except for want of memory. Nothing changes that a set of tasks
     /// in which the caller is may not change, but that what nobody sees any more goes, and that another task is sent a right. No server has a node beside those of the world.
     ///
     /// The parts that the call touches are noted before it. Whoever saw none of the noted parts when that began has the same view still.
@@ -123,7 +123,7 @@ impl<S: Server> World<S> {
     ///
     /// What a set of tasks is told is what the written machine tells it in any sound world that it sees alike, where the
     /// calls of the others touch nothing that it sees; and wherever it makes each of its calls in a world that it sees as
-    /// here, or as here but for internal names, whatever the others did before. What a set may change at none of its calls, and no call of the others touches, stays as
+    /// here, or as here except for internal names, whatever the others did before. What a set may change at none of its calls, and no call of the others touches, stays as
     /// it was, or goes unseen. A call that found no memory counts as not made.
     ///
     /// `ENOMEM`, with the list back and no call made, where there is no room for the replies.

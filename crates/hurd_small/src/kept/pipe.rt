@@ -27,7 +27,7 @@ impl Pipe {
     }
 }
 
-/// Puts bytes behind those that are held.
+/// Puts bytes after those that are held.
 fn put(held: &mut ArrayVec<u8, 4096>, bytes: &[u8])
     requires { array_vec_len held.old + length bytes.now ≤ 4096 }
     ensures { held.new.items ≡ held.old.items ++ bytes.now }
@@ -35,7 +35,7 @@ fn put(held: &mut ArrayVec<u8, 4096>, bytes: &[u8])
     let _put = held.try_extend_from_slice(bytes);
 }
 
-/// The bytes behind the first ones.
+/// The bytes after the first ones.
 fn behind(bytes: &[u8], count: usize) -> ArrayVec<u8, 4096>
     requires few { length bytes.now ≤ 4096 }
     requires within { count ≤ length bytes.now }

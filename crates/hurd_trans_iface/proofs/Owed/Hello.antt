@@ -63,7 +63,7 @@ hello_options_laws = record {
   within = λ ws text is. hello-within text (hello-options-short ws text is);
 }
 
--- what is behind the first bytes of a word
+-- what is after the first bytes of a word
 behind-short : (first word text : List ℕ) → (let o : Option (List ℕ) = if bytes_eq (take (length first) word) first then Some (drop (length first) word) else None in o) ≡ Some text → length text + length first ≡ length word
 behind-short first word text h =
     let told = told_if (bytes_eq (take (length first) word) first) (drop (length first) word) text h in

@@ -1,4 +1,4 @@
--- Words that are there, each behind a space.
+-- Words that are there, each after a space.
 use Rattle.std.proofs.Common.{◌≡◌, ◌==◌, ◌++◌, ◌∷◌, [], List, ℕ, false, length, refl, append_assoc}
 use Rattle.std.specs.Prelude.{codes}
 use Rattle.hurd_words.specs.Spelling.{spelled_words}

@@ -1,4 +1,4 @@
--- None of no words; else those behind the program's name, or none.
+-- None of no words; else those after the program's name, or none.
 use Rattle.hurd_lookup.proofs.NestedLaws.{aims_behind, aims_none, aims_not}
 use Rattle.hurd_lookup.proofs.nested.aims.Goals as goal
 

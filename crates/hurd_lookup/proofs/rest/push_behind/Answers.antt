@@ -1,4 +1,4 @@
--- A name behind a slash, and at the end nothing is left.
+-- A name after a slash, and at the end nothing is left.
 use Rattle.std.proofs.Common.{◌∙◌, ◌++◌, ℕ, List, ap, sym}
 use Rattle.hurd_lookup.specs.Path.{behind_slashes, names_in}
 use Rattle.hurd_lookup.proofs.RestLaws.{pushed, pushed-all}

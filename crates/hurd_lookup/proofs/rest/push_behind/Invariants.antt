@@ -1,4 +1,4 @@
--- The text with the names that are left behind it is the whole; and less is left.
+-- The text with the names that are left after it is the whole; and less is left.
 use Rattle.std.proofs.Common.{◌≡◌, ◌++◌, length}
 use Rattle.hurd_lookup.specs.Path.{behind_slashes, names_in}
 use Rattle.hurd_lookup.proofs.rest.push_behind.Given as goal

@@ -102,7 +102,7 @@ returns-clause-kept g c =
           (rw c.deref.ensures.value at c.subtract_targets.ensures.less));
     }
 
--- those that stand behind did so before
+-- those that come after did so before
 
 pub returns-in_default-clause-less : goal.returns-in_default-clause-less
 returns-in_default-clause-less g c = λ x b. let l = c.take_seat.ensures.less c.put_last-asked.result x b in (l.0, c.put_last-asked.ensures.but x l.1 l.0)

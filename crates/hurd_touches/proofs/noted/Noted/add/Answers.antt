@@ -1,4 +1,4 @@
--- A part that is there, or one behind the others.
+-- A part that is there, or one after the others.
 use Rattle.hurd_touches.proofs.AddsLaws.{adds_had, adds_last}
 use Rattle.hurd_touches.proofs.noted.Noted.add.Goals.{then-has-via-then-has, then-has-via-else-has+then-push}
 use Rattle.hurd_touches.proofs.noted.Noted.add.Goals as goal
