@@ -59,3 +59,7 @@ pub mod SeatsLeft
 pub mod SettingLeft
 pub mod OwnLooks
 pub mod ServedByLooks
+pub mod Coalitions
+pub mod Sent
+pub mod ComesToSee
+pub mod Refusals

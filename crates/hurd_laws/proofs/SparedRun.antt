@@ -10,7 +10,8 @@ use Rattle.hurd_laws.specs.Step.{after, plan, touches}
 use Rattle.hurd_laws.specs.Laws.{IsOld}
 use Rattle.hurd_laws.specs.Runs.{TaskCall, run}
 use Rattle.hurd_laws.specs.Integrity.{Entered, Gone, IsDelivered, IsLost, MayBody, MayChange, SameOwned, ToDrain, ToEnter, ToWrite}
-use Rattle.hurd_laws.specs.Spared.{Apart, IntegrityRun, IsApart, IsThing, SparedFile, SparedPart}
+use Rattle.hurd_machine.specs.Sight.{IsThing}
+use Rattle.hurd_laws.specs.Spared.{Apart, IntegrityRun, IsApart, SparedFile, SparedPart}
 use Rattle.hurd_laws.proofs.Assembled.{stays_sound}
 use Rattle.hurd_laws.proofs.Integrity.{parts_kept, stepped, untouched}
 use Rattle.hurd_laws.proofs.Reasons.{below_all, both_owned, same_owned}

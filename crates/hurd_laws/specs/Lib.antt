@@ -8,3 +8,6 @@ pub mod Spared
 pub mod Untold
 pub mod ServedByLooks
 pub mod After
+pub mod Coalitions
+pub mod ComesToSee
+pub mod Refusals

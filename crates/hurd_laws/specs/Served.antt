@@ -2,9 +2,10 @@
 use Rattle.std.specs.Prelude.{◌≡◌, ℕ, Bool, ◌&&◌, not, if◌then◌else◌, List, [], ◌∷◌}
 use Rattle.hurd_machine.specs.Calls.{Reply}
 use Rattle.hurd_machine.specs.World.{World}
-use Rattle.hurd_machine.specs.Sight.{SameView}
+use Rattle.hurd_machine.specs.Sight.{Part, SameView, Sees, Within}
 use Rattle.hurd_machine.specs.Sound.{Sound}
 use Rattle.hurd_laws.specs.Called.{Called, lacks_memory}
+use Rattle.hurd_laws.specs.Laws.{IsOld}
 use Rattle.hurd_laws.specs.Runs.{TaskCall, run, calls_of, replies_to, worlds_of, SameViews, Quiet}
 
 -- calls one after another, each with its reply
@@ -41,3 +42,8 @@ ComparedRun w ms rs =
     (S : ℕ → Bool) (v : World) (ns : List TaskCall) → Sound v
     → calls_of S (kept ms rs) ≡ calls_of S ns → SameViews S (worlds_of S w (kept ms rs)) (worlds_of S v ns)
     → told_to S ms rs ≡ replies_to S v ns
+
+-- calls made from w that led to x, in which the others touched nothing that G sees: whatever part of an old thing a task of G sees in x, G saw in w
+abbrev pub BoundedRun : World → List TaskCall → List Reply → World → Type 0
+BoundedRun w ms rs x =
+    (S G : ℕ → Bool) (p : Part) → Within S G → Quiet G w (kept ms rs) → IsOld w p → Sees S x p → Sees G w p

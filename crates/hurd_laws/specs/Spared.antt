@@ -5,7 +5,7 @@ use Rattle.hurd_creds.specs.declared.attrs.Kind.TheVariants.{Dir}
 use Rattle.hurd_creds.specs.Bits.{READ, WRITE}
 use Rattle.hurd_trans_iface.specs.Nodes.{Header}
 use Rattle.hurd_machine.specs.World.{World, body_at, header_at, home_at, stream_at}
-use Rattle.hurd_machine.specs.Sight.{Part, AttrOf, BodyOf, TaskOf, IsGone, part}
+use Rattle.hurd_machine.specs.Sight.{Part, AttrOf, BodyOf, IsGone, IsThing, part}
 use Rattle.hurd_machine.specs.Sound.{Sound}
 use Rattle.hurd_laws.specs.Step.{after, touches}
 use Rattle.hurd_laws.specs.Laws.{IsOld}
@@ -22,11 +22,6 @@ Spared S w (m ∷ ms) p =
 abbrev pub WentUnseen : World → List TaskCall → Part → Type 0
 WentUnseen w [] p = ⊥
 WentUnseen w (m ∷ ms) p = IsLost (after w m.task m.call) p ⊎ WentUnseen (after w m.task m.call) ms p
-
--- a part of no task
-abbrev pub IsThing : Part → Type 0
-IsThing (TaskOf t) = ⊥
-IsThing p = Unit {0}
 
 -- a part that is spared stays as it was, or went unseen
 abbrev pub SparedPart : (ℕ → Bool) → World → List TaskCall → World → Part → Type 0

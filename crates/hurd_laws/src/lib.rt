@@ -2,13 +2,16 @@
 #![tactic(auto)]
 
 ghost use Rattle.hurd_laws.specs.After.{AfterRenamed, OwnFromLooks};
+ghost use Rattle.hurd_laws.specs.Coalitions.{NeverTellsWithout, NeverWithout, OnlyMade, OnlyTogether, SeesMore, ViewsShrink};
+ghost use Rattle.hurd_laws.specs.ComesToSee.{ComesToSee, ReachedBySending};
 ghost use Rattle.hurd_laws.specs.Integrity.{Integrity};
+ghost use Rattle.hurd_laws.specs.Refusals.{AnyOrder, RefusedChangesNothing, RefusedTouchesNothing};
 ghost use Rattle.hurd_laws.specs.Spared.{IntegrityRun};
 ghost use Rattle.hurd_laws.specs.Laws.{ChangesTouched, Confined, ConfinedRun, GoneUnseen, Isolated, IsolatedByView, NeverWantsMemory, OthersUnseen, OwnFromView, QuietUnmoved, SideBySide, StaysSound, ViewSettled};
 ghost use Rattle.hurd_laws.specs.Untold.{NamesUntold, RaisedLooksSame, RenamedSound, SideBySideRenamed};
 
 /// The laws: each clause is one, over the definitions alone, and nothing is computed. `specs/Laws`, `specs/Integrity`, `specs/Spared`,
-/// `specs/Untold` and `specs/After` say them in words.
+/// `specs/Untold`, `specs/After`, `specs/Coalitions`, `specs/ComesToSee` and `specs/Refusals` say them in words.
 ///
 /// `integrity`: in a step of a task of a set, a part that the set may not change stays as it was; or it goes, and nobody sees it afterwards; or it is
 /// another's task, to which a right of the set's was sent.
@@ -29,6 +32,16 @@ ghost use Rattle.hurd_laws.specs.Untold.{NamesUntold, RaisedLooksSame, RenamedSo
 /// `after_renamed`: where all that others made has other names, and they have made more, a call leaves the same except for those names.
 /// `own_from_looks`: a call of a set of tasks, made in two worlds that look the same to it except for names of what others made, is told the same, and
 /// they look the same to it afterwards.
+///
+/// Eight laws speak of all futures. `sees_more`, `views_shrink`: a larger set sees more, and two worlds that look the same to it look the same to a smaller
+/// one. `only_together`: if the others touch nothing that a set sees, each of its tasks comes to see, of old things, only what the set together saw before;
+/// `only_made`: and only nodes that the set saw, or made. `reached_by_sending`: a task that was sent all ports of a set sees what that set saw.
+/// `comes_to_see`: so a task of a set can be shown a part of an old thing by the set's calls exactly if the set together sees it.
+/// `never_without`: a part that some tasks guard, since all others together don't see it, is never seen without help from one of them.
+/// `never_tells_without`: two worlds that differ only in such parts can never be told apart without them, even if each call is chosen by all replies so far.
+///
+/// `refused_changes_nothing`, `refused_touches_nothing`: a refused call changes nothing, except that a refused `fsys_startup` takes from its task what it was to
+/// start; and it touches nothing. `any_order`: what is left after take-outs doesn't depend on their order.
 pub fn laws()
     ensures changes_touched { ChangesTouched }
     ensures gone_unseen { GoneUnseen }
@@ -51,4 +64,15 @@ pub fn laws()
     ensures raised_looks_same { RaisedLooksSame }
     ensures after_renamed { AfterRenamed }
     ensures own_from_looks { OwnFromLooks }
+    ensures sees_more { SeesMore }
+    ensures views_shrink { ViewsShrink }
+    ensures only_together { OnlyTogether }
+    ensures only_made { OnlyMade }
+    ensures reached_by_sending { ReachedBySending }
+    ensures comes_to_see { ComesToSee }
+    ensures never_without { NeverWithout }
+    ensures never_tells_without { NeverTellsWithout }
+    ensures refused_changes_nothing { RefusedChangesNothing }
+    ensures refused_touches_nothing { RefusedTouchesNothing }
+    ensures any_order { AnyOrder }
 {}

@@ -10,3 +10,4 @@ pub mod OutputLaws
 pub mod IsolationLaws
 pub mod GivenLaws
 pub mod Looks
+pub mod ChosenLaws

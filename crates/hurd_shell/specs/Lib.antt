@@ -10,3 +10,4 @@ pub mod Faults
 pub mod Outputs
 pub mod Isolation
 pub mod Looks
+pub mod Chosen

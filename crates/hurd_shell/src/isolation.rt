@@ -1,4 +1,5 @@
 //! What a script tells a set of tasks does not depend on the others' commands, nor on internal names.
+ghost use Rattle.hurd_shell.specs.Chosen.{ChosenCommandsTellNothing};
 ghost use Rattle.hurd_shell.specs.Isolation.{AsWithoutOthers, CommandsSideBySide, IsolatedByView, IsolatedCommands, IsolatedScripts, OnePartEach, OwnCommandFromView, ScriptsSideBySide, ToldInTurn};
 ghost use Rattle.hurd_shell.specs.Looks.{CommandsByLooks, OwnCommandFromLooks, ScriptsByLooks};
 
@@ -42,4 +43,10 @@ pub fn scripts_side_by_side_renamed()
 /// tell them something else, they saw something else before that command.
 pub fn own_commands_go_by_what_is_seen()
     ensures { OwnCommandFromView }
+{}
+
+/// A law: if two worlds look the same to some users, and only these give commands, each chosen by all answers so far, nobody can ever tell the two apart: the
+/// commands are the same, and so are their answers and what these users see afterwards.
+pub fn chosen_commands_tell_nothing()
+    ensures { ChosenCommandsTellNothing }
 {}

@@ -23,8 +23,9 @@ mod transcript;
 
 pub use fault::{SessionFault, SupplyFault};
 pub use isolation::{
-    own_commands_go_by_what_is_seen, scripts_are_isolated, scripts_are_told_in_turn,
-    scripts_side_by_side, scripts_side_by_side_renamed, unmoved_scripts_are_isolated,
+    chosen_commands_tell_nothing, own_commands_go_by_what_is_seen, scripts_are_isolated,
+    scripts_are_told_in_turn, scripts_side_by_side, scripts_side_by_side_renamed,
+    unmoved_scripts_are_isolated,
 };
 pub use outputs::{a_maker_answers, outputs_are_the_transcript};
 pub use session::{Session, Want};

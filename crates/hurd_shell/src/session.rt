@@ -10,8 +10,8 @@ ghost use Rattle.hurd_touches.specs.declared.noted.Noted.{Noted};
 ghost use Rattle.hurd_world.specs.Boot.{boot_of};
 ghost use Rattle.hurd_world.specs.Held.{state_of, world_of};
 ghost use Rattle.hurd_world.specs.Noting.{NotesWhatIsTouched};
-ghost use Rattle.hurd_shell.specs.Session.{Begun, BegunWith, waits_for, BeginFault, HangsTogether, NewFault, NotTaken, Takes, TakesUnlessFailed, Tells, command_on, has_failed, next_task};
-ghost use Rattle.hurd_shell.specs.Transcript.{Dialogue, part_by, answer_to, played, tells};
+ghost use Rattle.hurd_shell.specs.Session.{Begun, BegunWith, waits_for, BeginFault, HangsTogether, NewFault, NotTaken, Takes, TakesUnlessFailed, Tells, command_on, has_failed, left_in, next_task};
+ghost use Rattle.hurd_shell.specs.Transcript.{Dialogue, part_by, answer_to, ends, played, tells};
 ghost use Rattle.hurd_shell.specs.Turns.{Stands, turn_on};
 
 use crate::answers::{bring, go_without};
@@ -195,9 +195,10 @@ impl<S: Server> Session<S> {
     /// What the next command is answered, `Server` with the words of a server that it waits for, until that is supplied
     /// or refused, or `Done`, for good, after the last.
     ///
-    /// `Memory`, from then on at every call, where memory was refused.
+    /// `Memory`, from then on at every call, if memory ran out.
     pub fn next(&mut self, alloc: Global) -> Result<Want, SessionFault>
         ensures tells { has_failed self.old ≡ false → Tells S.meaning self.old result self.new }
+        ensures done { has_failed self.old ≡ false → left_in S.meaning self.old ≡ ends → (result ≡ Ok Want.Done) × (self.new ≡ self.old) }
         ensures sound { HangsTogether S.meaning self.old → HangsTogether S.meaning self.new }
         ensures stays { has_failed self.old ≡ true → (result ≡ Err SessionFault.Memory) × (self.new ≡ self.old) }
         ensures noted { OnOk result (NotesWhatIsTouched (state_of S.meaning self.old.world) (state_of S.meaning self.new.world)) }

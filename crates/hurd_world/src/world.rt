@@ -6,7 +6,8 @@ ghost use Rattle.hurd_machine.specs.Calls.{BringsBegun, call_by, reply_by};
 ghost use Rattle.hurd_machine.specs.Sound.{Sound};
 ghost use Rattle.hurd_laws.specs.Called.{Called};
 ghost use Rattle.hurd_laws.specs.Integrity.{KeepsIntegrity};
-ghost use Rattle.hurd_laws.specs.Served.{Served, ComparedRun, IsolatedRun, kept};
+ghost use Rattle.hurd_laws.specs.Refusals.{LeavesIfRefused};
+ghost use Rattle.hurd_laws.specs.Served.{Served, BoundedRun, ComparedRun, IsolatedRun, kept};
 ghost use Rattle.hurd_laws.specs.ServedByLooks.{ComparedByLooks};
 ghost use Rattle.hurd_laws.specs.Spared.{SparesAll};
 ghost use Rattle.hurd_world.specs.Held.{AllBegun, AllComeBack, ComesBack, made_by, state_of, world_of};
@@ -107,6 +108,7 @@ impl<S: Server> World<S> {
         requires { BringsBegun (call_by S.meaning call) }
         ensures answer { Called (world_of S.meaning self.old) task.0 (call_by S.meaning call) (reply_by S.meaning result) (world_of S.meaning self.new) }
         ensures back { ComesBack call result }
+        ensures refused { LeavesIfRefused (world_of S.meaning self.old) (call_by S.meaning call) (reply_by S.meaning result) (world_of S.meaning self.new) }
         ensures sound { Sound (world_of S.meaning self.old) → Sound (world_of S.meaning self.new) }
         ensures integrity { Sound (world_of S.meaning self.old) → KeepsIntegrity (world_of S.meaning self.old) task.0 (world_of S.meaning self.new) }
         ensures hidden { HideNothing S.meaning self.new.core.nodes }
@@ -124,7 +126,8 @@ impl<S: Server> World<S> {
     /// What a set of tasks is told is what the written machine tells it in any sound world that it sees alike, where the
     /// calls of the others touch nothing that it sees; and wherever it makes each of its calls in a world that it sees as
     /// here, or as here except for internal names, whatever the others did before. What a set may change at none of its calls, and no call of the others touches, stays as
-    /// it was, or goes unseen. A call that found no memory counts as not made.
+    /// it was, or goes unseen. Of old things some tasks come to see only what a larger set together saw before, if the others touch nothing that this set sees.
+    /// A call that found no memory counts as not made.
     ///
     /// `ENOMEM`, with the list back and no call made, where there is no room for the replies.
     pub fn run(
@@ -137,6 +140,8 @@ impl<S: Server> World<S> {
             IfOk result (λ replies. Served w (map (made_by S.meaning) calls.items) (map (reply_by S.meaning) replies.items) x) }
         ensures isolated { let w = world_of S.meaning self.old in let x = world_of S.meaning self.new in
             IfOk result (λ replies. Sound w → IsolatedRun w (map (made_by S.meaning) calls.items) (map (reply_by S.meaning) replies.items) x) }
+        ensures bounded { let w = world_of S.meaning self.old in let x = world_of S.meaning self.new in
+            IfOk result (λ replies. Sound w → BoundedRun w (map (made_by S.meaning) calls.items) (map (reply_by S.meaning) replies.items) x) }
         ensures compared { let w = world_of S.meaning self.old in
             IfOk result (λ replies. Sound w → ComparedRun w (map (made_by S.meaning) calls.items) (map (reply_by S.meaning) replies.items)) }
         ensures looks { let w = world_of S.meaning self.old in

@@ -7,6 +7,11 @@ use Rattle.hurd_laws.proofs.SoundRenamed.{renamed_sound}
 use Rattle.hurd_laws.proofs.SideBySide.{side_by_side_renamed}
 use Rattle.hurd_laws.proofs.Raised.{raised_looks_same}
 use Rattle.hurd_laws.proofs.OwnLooks.{own_from_looks}
+use Rattle.hurd_machine.proofs.Larger.{sees_more, views_shrink}
+use Rattle.hurd_laws.proofs.Coalitions.{never_tells_without, never_without, only_made, only_together}
+use Rattle.hurd_laws.proofs.Sent.{reached_by_sending}
+use Rattle.hurd_laws.proofs.ComesToSee.{comes_to_see}
+use Rattle.hurd_laws.proofs.Refusals.{any_order, refused_changes_nothing, refused_touches_nothing}
 use Rattle.hurd_laws.proofs.laws.Goals as goal
 
 pub returns : goal.returns
@@ -32,4 +37,15 @@ returns c = record {
   raised_looks_same = raised_looks_same;
   after_renamed = after_renamed;
   own_from_looks = own_from_looks;
+  sees_more = sees_more;
+  views_shrink = views_shrink;
+  only_together = only_together;
+  only_made = only_made;
+  reached_by_sending = reached_by_sending;
+  comes_to_see = comes_to_see;
+  never_without = never_without;
+  never_tells_without = never_tells_without;
+  refused_changes_nothing = refused_changes_nothing;
+  refused_touches_nothing = refused_touches_nothing;
+  any_order = any_order;
 }

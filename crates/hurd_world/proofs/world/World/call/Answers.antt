@@ -1,6 +1,10 @@
+use Rattle.hurd_laws.proofs.Refusals.{called_refused}
 use Rattle.hurd_laws.proofs.Served.{called_integrity, called_sound}
 use Rattle.hurd_world.proofs.NotingLaws.{called_notes}
 use Rattle.hurd_world.proofs.world.World.call.Goals as goal
+
+pub returns-clause-refused : goal.returns-clause-refused
+returns-clause-refused g c = rw (← c.self.view_is) (called_refused _ _ _ _ _ c.dispatch-reply.ensures.0)
 
 pub returns-clause-sound : goal.returns-clause-sound
 returns-clause-sound g c = rw (← c.self.view_is) (called_sound _ _ _ _ _ c.dispatch-reply.ensures.0)

@@ -1,6 +1,7 @@
 use Rattle.std.proofs.Common.{◌≡◌, [], arith}
 use Rattle.std.proofs.lemmas.List.{nil_from_length}
 use Rattle.hurd_machine.proofs.Common.{into_iter_items}
+use Rattle.hurd_laws.proofs.Coalitions.{served_bounded}
 use Rattle.hurd_laws.proofs.Served.{served_sound, served_compared, served_isolated, served_spared}
 use Rattle.hurd_laws.proofs.ServedByLooks.{served_by_looks}
 use Rattle.hurd_world.proofs.RunLaws.{none_served, next_served, all_served, all_back, first_begun, rest_begun}
@@ -46,6 +47,9 @@ returns-clause-back g c =
 
 pub returns-clause-isolated : goal.returns-clause-isolated
 returns-clause-isolated g c = served_isolated _ _ _ _ (returns-clause-exact g c)
+
+pub returns-clause-bounded : goal.returns-clause-bounded
+returns-clause-bounded g c = served_bounded _ _ _ _ (returns-clause-exact g c)
 
 pub returns-clause-compared : goal.returns-clause-compared
 returns-clause-compared g c = served_compared _ _ _ _ (returns-clause-exact g c)
