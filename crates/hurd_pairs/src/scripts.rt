@@ -2,6 +2,7 @@
 ghost use Rattle.std.specs.Prelude.{◌≡◌, ℕ, List, true, Err, IfErr, IfOk};
 ghost use Rattle.std.specs.Io.KnownBytes.{Appends};
 ghost use Rattle.hurd_dialogue.specs.Sorts.{Begins};
+ghost use Rattle.hurd_run.specs.Scripts.{scripts};
 ghost use Rattle.hurd_teaching.specs.Programs.{AreThese};
 ghost use Rattle.hurd_terminal.specs.declared.fault.Fault.TheVariants.{Write};
 ghost use Rattle.hurd_pairs.specs.Reports.{IsFaulty, PairPrints};
@@ -13,7 +14,6 @@ use crate::difference::{PairFault, Verdict};
 use crate::matching::mismatch;
 use crate::reports::{Lined, report, verdict};
 use hurd_dialogue::Telling;
-use hurd_run::RunningScript;
 use hurd_teaching::{Learners, learners_of};
 use hurd_terminal::{Fault, Output};
 use std::alloc::Global;
@@ -61,26 +61,27 @@ fn compare_fit<T: Telling, W: Write>(
     Ok(verdict(&compared))
 }
 
-/// Runs two scripts side by side, and prints where those that WHO names first see something different in the second, and where they first get a
+/// Runs two scripts side by side, each as a `T`, and prints where those that WHO names first see something different in the second, and where they first get a
 /// different reply; returns whether they get the same replies.
 ///
 /// Errors, in order, of the first and then of the second script: `Bad` with the line at which it is bad, `Boot` with its world's refusal, `Unknown` where
 /// somebody is named who isn't in it. Then `NoPair`. Nothing is printed then, nor where there is no memory. `Write`: then a front is.
-pub fn compare_scripts<W: Write>(
+pub fn compare_scripts<T: Telling, W: Write>(
     alloc: Global,
     word: &str,
     one: &[u8],
     two: &[u8],
     output: &mut Output<W>,
 ) -> Result<Verdict, PairFault>
+    requires { T.sort ≡ scripts }
     ensures adds { (printed : List ℕ) × Appends (W.contents output.old.writer) (W.contents output.new.writer) printed × PairPrints word.now one.now two.now result printed }
     ensures write { result ≡ Err (First Write) → output.new.failed ≡ true }
 {
-    let (mut first, learners) = match fit::<RunningScript>(alloc, word, one) {
+    let (mut first, learners) = match fit::<T>(alloc, word, one) {
         Ok(fit) => fit,
         Err(fault) => return Err(PairFault::First(fault)),
     };
-    let (mut second, _others) = match fit::<RunningScript>(alloc, word, two) {
+    let (mut second, _others) = match fit::<T>(alloc, word, two) {
         Ok(fit) => fit,
         Err(fault) => return Err(PairFault::Second(fault)),
     };

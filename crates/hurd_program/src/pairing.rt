@@ -11,6 +11,7 @@ ghost use Rattle.hurd_program.specs.Pairs.{IsBlamed, PairEnds, PairExits, at_lin
 use crate::performing::{blame, named_line, stranger};
 use crate::request::TextSort;
 use hurd_pairs::{Mismatch, PairFault, Verdict, compare_scripts, line_in_script};
+use hurd_run::RunningScript;
 use hurd_terminal::{Fault, Input, Output, finish, read_text};
 use itoa::Buffer;
 use std::alloc::{AllocError, Global};
@@ -178,7 +179,7 @@ fn compare_read<W: Write, E: Write>(
 ) -> u8
     ensures { PairEnds who.now first.now second.now one.now two.now W.contents E.contents output.old output.new errors.old errors.new result }
 {
-    match compare_scripts(alloc, who, one, two, output) {
+    match compare_scripts::<RunningScript, W>(alloc, who, one, two, output) {
         Ok(Verdict::Same) => 0,
         Ok(Verdict::Different) => 3,
         Err(PairFault::First(fault)) => say_fault(alloc, who, first, one, fault, errors),

@@ -97,7 +97,7 @@ impl<S: Server> World<S> {
     }
 
     /// Makes one call of a task. A refused call changes nothing, and gives back the server that it brought, which some words made;
-    /// a refused `fsys_startup` alone gives up what the task was to start, except for want of memory. Nothing changes that a set of tasks
+    /// a refused `fsys_startup` alone gives up what the task was to start, unless memory ran out. Nothing changes that a set of tasks
     /// in which the caller is may not change, but that what nobody sees any more goes, and that another task is sent a right. No server has a node beside those of the world.
     ///
     /// The parts that the call touches are noted before it. Whoever saw none of the noted parts when that began has the same view still.
