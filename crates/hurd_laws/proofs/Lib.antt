@@ -63,3 +63,4 @@ pub mod Coalitions
 pub mod Sent
 pub mod ComesToSee
 pub mod Refusals
+pub mod Paths

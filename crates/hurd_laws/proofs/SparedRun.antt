@@ -28,7 +28,7 @@ old_after w t c s p old = below_after w t c s _ old
 
 -- parts
 
-no_task : (p : Part) (t : ℕ) → IsThing p → p ≢ TaskOf t
+pub no_task : (p : Part) (t : ℕ) → IsThing p → p ≢ TaskOf t
 no_task (TaskOf q) t thing e = thing
 no_task p t thing e = absurd (cc (e))
 

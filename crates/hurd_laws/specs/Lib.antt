@@ -11,3 +11,4 @@ pub mod After
 pub mod Coalitions
 pub mod ComesToSee
 pub mod Refusals
+pub mod Paths

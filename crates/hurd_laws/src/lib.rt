@@ -5,13 +5,15 @@ ghost use Rattle.hurd_laws.specs.After.{AfterRenamed, OwnFromLooks};
 ghost use Rattle.hurd_laws.specs.Coalitions.{NeverTellsWithout, NeverWithout, OnlyMade, OnlyTogether, SeesMore, ViewsShrink};
 ghost use Rattle.hurd_laws.specs.ComesToSee.{ComesToSee, ReachedBySending};
 ghost use Rattle.hurd_laws.specs.Integrity.{Integrity};
+ghost use Rattle.hurd_laws.specs.Paths.{PathStays};
 ghost use Rattle.hurd_laws.specs.Refusals.{AnyOrder, RefusedChangesNothing, RefusedTouchesNothing};
 ghost use Rattle.hurd_laws.specs.Spared.{IntegrityRun};
 ghost use Rattle.hurd_laws.specs.Laws.{ChangesTouched, Confined, ConfinedRun, GoneUnseen, Isolated, IsolatedByView, NeverWantsMemory, OthersUnseen, OwnFromView, QuietUnmoved, SideBySide, StaysSound, ViewSettled};
 ghost use Rattle.hurd_laws.specs.Untold.{NamesUntold, RaisedLooksSame, RenamedSound, SideBySideRenamed};
 
 /// The laws: each clause is one, over the definitions alone, and nothing is computed. `specs/Laws`, `specs/Integrity`, `specs/Spared`,
-/// `specs/Untold`, `specs/After`, `specs/Coalitions`, `specs/ComesToSee` and `specs/Refusals` say them in words.
+/// `specs/Untold`, `specs/After`, `specs/Coalitions`, `specs/ComesToSee`, `specs/Refusals` and `specs/Paths`
+/// say them in words.
 ///
 /// `integrity`: in a step of a task of a set, a part that the set may not change stays as it was; or it goes, and nobody sees it afterwards; or it is
 /// another's task, to which a right of the set's was sent.
@@ -41,7 +43,8 @@ ghost use Rattle.hurd_laws.specs.Untold.{NamesUntold, RaisedLooksSame, RenamedSo
 /// `never_tells_without`: two worlds that differ only in such parts can never be told apart without them, even if each call is chosen by all replies so far.
 ///
 /// `refused_changes_nothing`, `refused_touches_nothing`: a refused call changes nothing, except that a refused `fsys_startup` takes from its task what it was to
-/// start; and it touches nothing. `any_order`: what is left after take-outs doesn't depend on their order.
+/// start; and it touches nothing. `any_order`: what is left after take-outs doesn't depend on their order. `path_stays`: what is at a path from the root stays
+/// there, if a set may take no entry on the way at any of its calls, and no call of the others touches one of the directories.
 pub fn laws()
     ensures changes_touched { ChangesTouched }
     ensures gone_unseen { GoneUnseen }
@@ -75,4 +78,5 @@ pub fn laws()
     ensures refused_changes_nothing { RefusedChangesNothing }
     ensures refused_touches_nothing { RefusedTouchesNothing }
     ensures any_order { AnyOrder }
+    ensures path_stays { PathStays }
 {}

@@ -11,6 +11,7 @@ use Rattle.hurd_machine.proofs.Larger.{sees_more, views_shrink}
 use Rattle.hurd_laws.proofs.Coalitions.{never_tells_without, never_without, only_made, only_together}
 use Rattle.hurd_laws.proofs.Sent.{reached_by_sending}
 use Rattle.hurd_laws.proofs.ComesToSee.{comes_to_see}
+use Rattle.hurd_laws.proofs.Paths.{path_stays}
 use Rattle.hurd_laws.proofs.Refusals.{any_order, refused_changes_nothing, refused_touches_nothing}
 use Rattle.hurd_laws.proofs.laws.Goals as goal
 
@@ -48,4 +49,5 @@ returns c = record {
   refused_changes_nothing = refused_changes_nothing;
   refused_touches_nothing = refused_touches_nothing;
   any_order = any_order;
+  path_stays = path_stays;
 }
