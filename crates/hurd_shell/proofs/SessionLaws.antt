@@ -1,5 +1,5 @@
 -- What a session has still to tell.
-use Rattle.std.proofs.Common.{◌≡◌, ◌≤◌, ◌<◌, ◌+◌, ◌&&◌, ℕ, zero, suc, true, List, [], ◌∷◌, length, drop, get_or, slice_get, Option, Some, Result, Ok, Err, nat_lt, refl, sym, ◌∙◌, ap, subst, arith}
+use Rattle.std.proofs.Common.{◌≡◌, ◌≢◌, ◌≤◌, ◌<◌, ◌+◌, ◌&&◌, ℕ, zero, suc, true, List, [], ◌∷◌, length, drop, get_or, slice_get, Option, Some, Result, Ok, Err, nat_lt, refl, sym, ◌∙◌, ap, subst, arith}
 use Rattle.std.specs.Prelude.{IfOk, OnOk}
 use Rattle.std.specs.Option.{option_map}
 use Rattle.std.proofs.lemmas.Bool.{and_parts, lt-ltb, ltb-true}
@@ -231,3 +231,16 @@ told_next f world left commands given after at next c (Waits waiting) want withi
       refl,
       refl,
     )
+
+-- what is told of a command is never the end
+never_ends : {A : Type 0} (t : ℕ) (p : Prog A) (w : World) (next : Result A Errno → World → Dialogue) → ((r : Result A Errno) (x : World) → next r x ≢ ends) → played t p w next ≢ ends
+unfolding played
+never_ends t (gives r) w next more e = more r w e
+never_ends t (calls c k) w next more e = never_ends t (k (reply_of w t c)) (after w t c) next more e
+never_ends t (asks words k) w next more e = absurd (cc (e))
+
+-- so where a command is left, something is left to tell
+pub left_on : (phase : Phase) (cs : List CommandLine) (k : ℕ) (w : World) → k < length cs → left_of phase (drop k cs) w ≢ ends
+left_on phase [] k w less e = absurd (omega (arith, less))
+left_on phase (c ∷ cs) zero w less e = never_ends c.task (command_on phase c) w (λ r x. tells (part_by c (answer_to c r) x) (dialogue cs x)) (λ r x told. absurd (cc (told))) e
+left_on phase (c ∷ cs) (suc k) w less e = left_on phase cs k w (omega (arith, less)) e

@@ -1,10 +1,12 @@
 -- The world that the code holds, and how its calls and replies are read.
-use Rattle.std.specs.Prelude.{◌≡◌, List, [], ◌∷◌, Result, Ok, Err, Option, Some, refl}
+use Rattle.std.specs.Prelude.{◌≡◌, Bool, true, false, List, [], ◌∷◌, Result, Ok, Err, Option, Some, refl}
 use Rattle.std.specs.Coded.{Coded, code_by, coded×}
 use Rattle.hurd_creds.specs.declared.errno.Errno.{Errno}
 use Rattle.hurd_creds.specs.declared.name.TaskId.{TaskId}
 use Rattle.hurd_trans_iface.specs.Meaning.{Meaning}
 use Rattle.hurd_machine.specs.declared.call.Call as call
+use Rattle.hurd_machine.specs.declared.call.PlainCall.{PlainCall}
+use Rattle.hurd_machine.specs.declared.call.PlainCall.TheVariants.{AuthMakeauth, IoRestrictAuth}
 use Rattle.hurd_machine.specs.declared.call.Reply as reply
 use Rattle.hurd_machine.specs.declared.call.Reply.TheVariants.{Done, Refused, Back}
 use Rattle.hurd_machine.specs.Calls.{BringsBegun, box_in, call_by, refusal}
@@ -66,3 +68,9 @@ AllComeBack [] [] = Unit {0}
 AllComeBack [] (r ∷ rs) = ⊥
 AllComeBack (m ∷ ms) [] = ⊥
 AllComeBack (m ∷ ms) (r ∷ rs) = ComesBack m.1 r × AllComeBack ms rs
+
+-- a call by whose ids a task or a port goes from then on
+abbrev pub takes_ids : PlainCall → Bool
+takes_ids (AuthMakeauth ids) = true
+takes_ids (IoRestrictAuth p ids) = true
+takes_ids c = false

@@ -11,6 +11,7 @@
 #![tactic(auto)]
 
 mod boot;
+mod lent;
 mod replies;
 mod rows;
 mod world;

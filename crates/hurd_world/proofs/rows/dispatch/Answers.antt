@@ -1,18 +1,8 @@
-use Rattle.std.proofs.Common.{ap, refl, ◌∙◌}
-use Rattle.hurd_machine.specs.declared.call.Call.TheVariants.{Plain}
+use Rattle.std.proofs.Common.{refl}
 use Rattle.hurd_machine.specs.World.{World}
 use Rattle.hurd_core.specs.Core.{world_of}
-use Rattle.hurd_world.proofs.RowLaws.{begun_box, lookup_row, set_row, start_row}
+use Rattle.hurd_world.proofs.RowLaws.{begun_box, set_row, start_row}
 use Rattle.hurd_world.proofs.rows.dispatch.Goals as goal
-
-pub returns-in-Plain-DirLookup : goal.returns-in-Plain-DirLookup
-returns-in-Plain-DirLookup g c =
-    let f = g.S.Server.meaning in
-    let w : World = world_of g.S.Server.meaning c.args.core.now in
-    let x : World = world_of g.S.Server.meaning c.dir_lookup.new.core in
-    let of = c.in-Plain-DirLookup in
-    lookup_row f w w c.args.task.0 c.args.call c.found.result x refl of.dir of.path of.flags of.mode c.dir_lookup.result _ x
-    (of.is ∙ ap Plain of.field-0-is) refl refl c.found.ensures (rw c.as_slice.ensures at c.dir_lookup.ensures)
 
 pub returns-in-FileSetTranslator : goal.returns-in-FileSetTranslator
 returns-in-FileSetTranslator g c =
