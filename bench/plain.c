@@ -1,4 +1,4 @@
-/* Does in plain C what hurd_bench does on its tree, and prints rows of the same form: about the least that such work takes.
+/* Does in plain C what `hurd_trials bench` does on its tree, and prints rows of the same form: about the least that such work takes.
 
    plain NODES. Status 1 with one line where a call is refused, and 2 for other arguments.
 

@@ -1,4 +1,4 @@
-/* Does on a folder of the kernel what hurd_bench does on its tree, and prints rows of the same form.
+/* Does on a folder of the kernel what `hurd_trials bench` does on its tree, and prints rows of the same form.
 
    tmpfs NODES FOLDER: FOLDER is there, and empty. What this makes in it, it takes away again. Status 1 with one line where a
    call fails, and 2 for other arguments. */

@@ -1,5 +1,18 @@
 //! A first program over the tree: root writes a notice and puts a server on a second file, and alice reads both.
-#![tactic(auto)]
+//!
+//! To make a program of your own of it, copy this file and `example/tree.rt` into the `src` of a crate. In `crates.txt`
+//! that crate stands on hurd_creds, hurd_trans_iface, hurd_small, hurd_tmpfs, hurd_kinds, hurd_machine, hurd_world and
+//! bitflags. Beside the two write a `main.rt`:
+//!
+//! ```
+//! #![tactic(auto)]
+//!
+//! mod example;
+//!
+//! fn main(rt: HostRuntime) -> std::io::Result<()> {
+//!     example::start(&rt)
+//! }
+//! ```
 
 ghost use Rattle.std.specs.Prelude.{◌≡◌, IfOk};
 ghost use Rattle.hurd_trans_iface.specs.Meaning.{Begins};
@@ -65,7 +78,8 @@ fn program(alloc: Global) -> Result<Told, Errno> {
     tour(alloc, boot, server)
 }
 
-fn main(rt: HostRuntime) -> io::Result<()> {
+/// Does it, and prints what alice is told.
+pub fn start(rt: &HostRuntime) -> io::Result<()> {
     match program(rt.alloc()) {
         Ok(
             Told {

@@ -3,10 +3,10 @@ ghost use Rattle.std.specs.Prelude.{◌≡◌, ◌<◌};
 ghost use Rattle.hurd_trans_iface.specs.Meaning.{Begins};
 ghost use Rattle.hurd_tmpfs.specs.Tree.{new_tmpfs};
 
-use crate::files::{
+use crate::bench::files::{
     Files, directory_name, directory_of, file_name, file_path, new_name, served_name, served_path,
 };
-use crate::work::Work;
+use crate::bench::work::Work;
 use bitflags::Flags;
 use hurd_creds::{Bytes, Errno, GoawayFlags, Ids, Mode, OpenFlags, TaskId, TransFlags};
 use hurd_machine::Setting;

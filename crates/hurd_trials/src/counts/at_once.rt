@@ -5,9 +5,9 @@ ghost use Rattle.hurd_kinds.specs.Boxes.{box_meaning};
 ghost use Rattle.hurd_lists.specs.Calls.{begun};
 ghost use Rattle.hurd_world.specs.Held.{AllBegun};
 
-use crate::boxes::Boxes;
-use crate::counted::Counted;
-use crate::run::followed;
+use crate::counts::boxes::Boxes;
+use crate::counts::counted::Counted;
+use crate::counts::run::followed;
 use hurd_calls::brought;
 use hurd_creds::{Bytes, TaskId};
 use hurd_kinds::ServerBox;

@@ -9,14 +9,14 @@ pub enum Fault {
     Usage,
     /// A call was refused.
     Refused(Errno),
-    /// The system gave no time or no arguments, or took no line.
+    /// The system gave no time, or took no line.
     System(io::Error),
 }
 
 impl fmt::Display for Fault {
     fn fmt<W: fmt::Write>(&self, f: &mut fmt::Formatter<W>) -> fmt::Result {
         match self {
-            Fault::Usage => write!(f, "usage: hurd_bench NODES [hello|firmlink]"),
+            Fault::Usage => write!(f, "usage: hurd_trials bench NODES [hello|firmlink]"),
             Fault::Refused(errno) => write!(f, "refused: {}", errno.name()),
             Fault::System(error) => write!(f, "{error}"),
         }

@@ -1,7 +1,7 @@
 //! The files of a run: how many, in which directories, under which names, and which of them a kind of work is done on.
 ghost use Rattle.std.specs.Prelude.{◌<◌};
 
-use crate::work::Work;
+use crate::bench::work::Work;
 use hurd_creds::Bytes;
 use itoa::Buffer;
 use std::alloc::{AllocError, Global};

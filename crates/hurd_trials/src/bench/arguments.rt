@@ -1,11 +1,9 @@
 //! What the program is asked for.
 ghost use Rattle.std.specs.Prelude.{◌<◌};
 
-use crate::fault::Fault;
-use crate::files::Files;
-use crate::work::Work;
-use std::env;
-use std::rt::Env;
+use crate::bench::fault::Fault;
+use crate::bench::files::Files;
+use crate::bench::work::Work;
 
 /// The files of a run without an argument.
 const SAMPLE: usize = 100;
@@ -42,30 +40,27 @@ impl Asked {
         }
     }
 
-    /// What the arguments ask for: at most a number of files, and a kind of server, hellos where none is named.
-    pub fn read(rt: &(impl Env + Alloc)) -> Result<Asked, Fault> {
-        let mut arguments = env::args(rt)?;
-        arguments.next();
-        let first = arguments.next();
-        let second = arguments.next();
-        if arguments.next().is_some() {
-            return Err(Fault::Usage);
-        }
-        let Some(text) = first else {
-            return Ok(Asked {
+    /// What the words ask for: at most a number of files, and a kind of server, hellos where none is named.
+    pub fn read(words: &[String]) -> Result<Asked, Fault> {
+        match words {
+            [] => Ok(Asked {
                 files: Files { count: SAMPLE },
                 kind: Kind::Hello,
                 timed: false,
-            });
-        };
+            }),
+            [files] => Asked::of(files, Kind::Hello),
+            [files, kind] => Asked::of(files, kind_named(kind).ok_or(Fault::Usage)?),
+            _ => Err(Fault::Usage),
+        }
+    }
+
+    /// So many files as digits name, with times.
+    fn of(files: &str, kind: Kind) -> Result<Asked, Fault> {
         Ok(Asked {
             files: Files {
-                count: number(&text).ok_or(Fault::Usage)?,
+                count: number(files).ok_or(Fault::Usage)?,
             },
-            kind: match &second {
-                Some(word) => kind_named(word).ok_or(Fault::Usage)?,
-                None => Kind::Hello,
-            },
+            kind,
             timed: true,
         })
     }

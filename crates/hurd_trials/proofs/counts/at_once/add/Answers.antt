@@ -2,8 +2,8 @@ use Rattle.std.proofs.Common.{List, subst, sym}
 use Rattle.hurd_creds.specs.declared.name.TaskId.{TaskId}
 use Rattle.hurd_machine.specs.declared.call.Call as call
 use Rattle.hurd_world.specs.Held.{AllBegun}
-use Rattle.hurd_counts.proofs.ReadyLaws.{all-begun, brings}
-use Rattle.hurd_counts.proofs.at_once.add.Goals as goal
+use Rattle.hurd_trials.proofs.ReadyLaws.{all-begun, brings}
+use Rattle.hurd_trials.proofs.counts.at_once.add.Goals as goal
 
 pub returns : goal.returns
 returns g c =

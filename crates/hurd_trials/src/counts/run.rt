@@ -4,9 +4,9 @@ ghost use Rattle.std.specs.Option.{option_map};
 ghost use Rattle.hurd_lists.specs.Calls.{begun};
 ghost use Rattle.hurd_tmpfs.specs.Tree.{new_tmpfs};
 
-use crate::at_once::make_at_once;
-use crate::boxes::Boxes;
-use crate::counted::Counted;
+use crate::counts::at_once::make_at_once;
+use crate::counts::boxes::Boxes;
+use crate::counts::counted::Counted;
 use hurd_calls::{answer, begun, brought, complaint_of, parsed};
 use hurd_creds::{Bytes, Ids};
 use hurd_kinds::{ServerBox, empty_tree};

@@ -1,9 +1,9 @@
 //! A chain of servers, each on a file of the one before, that all go in one call.
 //!
 //! One list of calls has no room for ten thousand of them, so each comes by a list of its own.
-use crate::boxes::Boxes;
-use crate::counted::Counted;
-use crate::run::{boot, made};
+use crate::counts::boxes::Boxes;
+use crate::counts::counted::Counted;
+use crate::counts::run::{boot, made};
 use hurd_calls::{brought, parsed};
 use hurd_kinds::{ServerBox, empty_tree};
 use hurd_lists::CallList;

@@ -1,6 +1,6 @@
 //! A row of the table that is printed.
-use crate::fault::Fault;
-use crate::work::Work;
+use crate::bench::fault::Fault;
+use crate::bench::work::Work;
 use std::rt::Clock;
 use std::time::{Duration, Instant};
 

@@ -1,12 +1,11 @@
 //! Measures the work of a user on files: how long one call after another takes in a tree of so many files.
 //!
-//! `hurd_bench NODES [hello|firmlink]` makes that many files, from 1 to 10,000,000, in directories of at most 1,000, does each
+//! `hurd_trials bench NODES [hello|firmlink]` makes that many files, from 1 to 10,000,000, in directories of at most 1,000, does each
 //! kind of work on them or on some of them, and prints for each kind how many times it was done and how many nanoseconds one
 //! took. The servers that come are hellos, or firm links to the first directory, beside each of at most 100,000 files. With no
 //! argument there are 100 files and no times are printed, so that each run prints the same.
 //!
 //! Status 1 with one line, the usage or the error of a call that was refused.
-#![tactic(auto)]
 
 ghost use Rattle.std.specs.Prelude.{IfOk};
 ghost use Rattle.hurd_trans_iface.specs.Meaning.{Begins};
@@ -167,12 +166,13 @@ fn measure(rt: &(impl Clock + Print), alloc: Global, asked: Asked) -> Result<(),
 }
 
 /// The whole program, up to the first fault.
-fn program(rt: &HostRuntime) -> Result<(), Fault> {
-    measure(rt, rt.alloc(), Asked::read(rt)?)
+fn program(rt: &HostRuntime, words: &[String]) -> Result<(), Fault> {
+    measure(rt, rt.alloc(), Asked::read(words)?)
 }
 
-fn main(rt: HostRuntime) -> ExitCode {
-    match program(&rt) {
+/// Does what the words after `bench` ask for, and says what went wrong.
+pub fn start(rt: &HostRuntime, words: &[String]) -> ExitCode {
+    match program(rt, words) {
         Ok(()) => ExitCode::SUCCESS,
         Err(fault) => {
             let _ = println!(rt; "{fault}");

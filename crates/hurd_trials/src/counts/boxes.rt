@@ -1,7 +1,7 @@
 //! The boxes of a run, numbered as they come, and what became of each.
 ghost use Rattle.std.specs.Prelude.{◌≡◌, IfOk};
 
-use crate::counted::{Counted, Counts};
+use crate::counts::counted::{Counted, Counts};
 use hurd_terminal::{Fault, Output};
 use hurd_trans_iface::Server;
 use std::alloc::Global;
