@@ -1,7 +1,7 @@
 //! Whole texts: what C calls to have one told in a world of its own.
 ghost use Rattle.std.specs.Prelude.{◌≡◌, IsUtf8, MatchResult, None, option_map, string_bytes};
 ghost use Rattle.hurd_dialogue.specs.Sorts.{running};
-ghost use Rattle.hurd_drawing.specs.Drawings.{drawing};
+ghost use Rattle.hurd_teaching.specs.Drawings.{drawing};
 ghost use Rattle.hurd_program.specs.Requests.{asked, sort_of};
 ghost use Rattle.hurd_teaching.specs.Programs.{learning, seeing};
 ghost use Rattle.hurd_c.specs.Texts.{Copies, IsUnnamed, OfSome, OfSort, marked_in, sort_at};

@@ -2,7 +2,7 @@
 use Rattle.std.specs.Prelude.{ℕ, Option, Some, None, Result, Err, string_bytes, option_map}
 use Rattle.hurd_calls.specs.Lists.{lists}
 use Rattle.hurd_dialogue.specs.Sorts.{Sort, running}
-use Rattle.hurd_drawing.specs.Drawings.{drawing}
+use Rattle.hurd_teaching.specs.Drawings.{drawing}
 use Rattle.hurd_run.specs.Scripts.{scripts}
 use Rattle.hurd_teaching.specs.Programs.{learning, seeing}
 use Rattle.hurd_terminal.specs.Runs.{Program}

@@ -11,3 +11,6 @@ pub mod WatchLaws
 pub mod UnmovedLaws
 pub mod SeenLaws
 pub mod LimitLaws
+pub mod OwnerLaws
+pub mod PictureLaws
+pub mod OnePicture

@@ -7,3 +7,5 @@ pub mod Limits
 pub mod Shown
 pub mod Programs
 pub mod Reading
+pub mod Owners
+pub mod Drawings

@@ -1,6 +1,7 @@
 //! What it means that such outputs can be read back, and that what is printed is one text.
 ghost use Rattle.std.specs.Prelude.{ℕ, List, Option};
 ghost use Rattle.hurd_dialogue.specs.Sorts.{Sort};
+ghost use Rattle.hurd_teaching.specs.Drawings.{drawing};
 ghost use Rattle.hurd_teaching.specs.Lessons.{LessonsAreSentences};
 ghost use Rattle.hurd_teaching.specs.Limits.{ShortenedAreSentences};
 ghost use Rattle.hurd_teaching.specs.Programs.{PrintsOneText, learning, seeing};
@@ -29,4 +30,9 @@ pub fn lessons_are_sentences()
 /// A law: so is what is printed of it, if that is limited.
 pub fn shortened_are_sentences()
     ensures { ShortenedAreSentences }
+{}
+
+/// A law: of a text one picture is drawn.
+pub fn one_picture_is_drawn()
+    ensures { (sort : Sort) (who : Option (List ℕ)) → PrintsOneText (drawing sort who) }
 {}

@@ -4,23 +4,29 @@
 //! `learn_text` begins a text and prints all that it tells, with what those that WHO names learn. `see_text` prints what they see at its end. `reached`, `seen`, `look` and `view_of` tell of a
 //! world as it is which ids a set of tasks can act with, which nodes it sees, each with why, which parts, and all that it sees with its values. A `Watch`
 //! keeps what some tasks saw, and says what they learned since.
+//!
+//! `draw_text` begins a text, goes to its end, and prints a picture of all that its tasks see there together, for Graphviz. If some are named, it is marked what
+//! these see of it.
 #![tactic(auto)]
 
+mod drawing;
 mod laws;
 mod learners;
 mod learning;
 mod limits;
 mod looks;
 mod naming;
+mod owners;
 mod seeing;
 mod sights;
 mod steps;
 mod telling;
 mod watch;
 
+pub use drawing::draw_text;
 pub use laws::{
-    lessons_are_sentences, one_sight_is_printed, one_text_is_printed, outputs_are_read_back,
-    shortened_are_sentences,
+    lessons_are_sentences, one_picture_is_drawn, one_sight_is_printed, one_text_is_printed,
+    outputs_are_read_back, shortened_are_sentences,
 };
 pub use learners::Learners;
 pub use learning::learn_text;

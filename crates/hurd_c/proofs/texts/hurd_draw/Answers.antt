@@ -1,4 +1,4 @@
-use Rattle.hurd_drawing.specs.Drawings.{drawing}
+use Rattle.hurd_teaching.specs.Drawings.{drawing}
 use Rattle.hurd_program.specs.Requests.{sort_of}
 use Rattle.hurd_c.specs.Texts.{marked_in}
 use Rattle.hurd_c.proofs.Unnamed.{says_none}

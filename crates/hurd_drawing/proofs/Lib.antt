@@ -1,3 +1,0 @@
-pub mod OwnerLaws
-pub mod PictureLaws
-pub mod OnePicture

@@ -1,5 +1,0 @@
-use Rattle.hurd_drawing.proofs.laws.one_picture_is_drawn.Goals as goal
-use Rattle.hurd_drawing.proofs.OnePicture.{one_picture}
-
-pub returns : goal.returns
-returns c = one_picture

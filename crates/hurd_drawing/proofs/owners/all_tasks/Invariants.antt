@@ -1,6 +1,0 @@
-use Rattle.std.proofs.Common.{◌≡◌}
-use Rattle.hurd_drawing.specs.Owners.{tasks_below}
-use Rattle.hurd_drawing.proofs.owners.all_tasks.Given as goal
-
-abbrev pub invariant-loop-number : goal.invariant-loop-number
-invariant-loop-number l = l.tasks.items ≡ tasks_below l.number

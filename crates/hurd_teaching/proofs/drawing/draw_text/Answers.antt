@@ -1,0 +1,4 @@
+use Rattle.hurd_teaching.proofs.drawing.draw_text.Goals as goal
+
+pub returns-in-Some-clause-adds : goal.returns-in-Some-clause-adds
+returns-in-Some-clause-adds g c = rw c.in-Some.is (rw c.as_str.ensures.value at c.draw_for.ensures.adds)
