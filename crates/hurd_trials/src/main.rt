@@ -1,7 +1,7 @@
 //! Trials of the library: an example to copy, what becomes of boxes, and how long a user's work takes.
 //!
 //! `hurd_trials example` is a first program over the tree.
-//! `hurd_trials counts [at-once|last-port|chain N]` is for tests: it makes the calls of a list with boxes that count.
+//! `hurd_trials counts [at-once|last-port|script|script-over-a-file|chain N]` is for tests: it makes the calls of a list with boxes that count.
 //! `hurd_trials bench [NODES [hello|firmlink]]` measures the work of a user on files.
 //! Each is a module that says more. Other words have status 2, with the usage on standard error.
 #![tactic(auto)]
@@ -19,7 +19,7 @@ const NO_MEMORY: &[u8] = b"hurd: out of memory\n";
 
 /// What is said of other words.
 const USAGE: &[u8] =
-    b"usage: hurd_trials example | counts [at-once|last-port|chain N] | bench [NODES [hello|firmlink]]\n";
+    b"usage: hurd_trials example | counts [at-once|last-port|script|script-over-a-file|chain N] | bench [NODES [hello|firmlink]]\n";
 
 /// What is said where the example can't print.
 const NO_OUTPUT: &[u8] = b"hurd: cannot write\n";
