@@ -2,7 +2,7 @@
 use Rattle.std.specs.Prelude.{◌≡◌, ◌⊎◌, ℕ, zero, suc, List, [], ◌∷◌, Option, Some, None, Result, Err, IsUtf8, MatchOption, length}
 use Rattle.hurd_calls.specs.Lists.{lists}
 use Rattle.hurd_dialogue.specs.Sorts.{Sort}
-use Rattle.hurd_run.specs.Scripts.{scripts}
+use Rattle.hurd_shell.specs.Scripts.{scripts}
 use Rattle.hurd_terminal.specs.Runs.{Program}
 use Rattle.hurd_terminal.specs.declared.fault.Fault.{Fault}
 use Rattle.hurd_terminal.specs.declared.fault.Fault.TheVariants.{Unknown, Memory}

@@ -3,7 +3,7 @@ use Rattle.std.specs.Option.{option_map}
 use Rattle.std.proofs.Common.{◌≡◌, ◌∙◌, map, inl, inr, refl, sym, ap, subst, ℕ, List, [], ◌∷◌, ◌++◌, Option, Some, None}
 use Rattle.hurd_creds.specs.declared.name.TaskId.{TaskId}
 use Rattle.hurd_sight.specs.Reach.{among}
-use Rattle.hurd_run.specs.Scripts.{scripts}
+use Rattle.hurd_shell.specs.Scripts.{scripts}
 use Rattle.hurd_lessons.proofs.BesideLaws.{told_apart_is_one}
 use Rattle.hurd_teaching.proofs.OneText.{alike}
 use Rattle.hurd_machine.specs.World.{World}

@@ -12,7 +12,7 @@ use Rattle.hurd_sight.specs.Reach.{among}
 use Rattle.hurd_views.proofs.ViewLaws.{rows_are_views}
 use Rattle.hurd_dialogue.specs.Parts.{Part, Way}
 use Rattle.hurd_dialogue.specs.Sorts.{Begins}
-use Rattle.hurd_run.specs.Scripts.{scripts}
+use Rattle.hurd_shell.specs.Scripts.{scripts}
 use Rattle.hurd_teaching.specs.Programs.{AreThese}
 use Rattle.hurd_teaching.specs.declared.learners.Learners.{Learners}
 use Rattle.hurd_terminal.specs.Faults.{AppendsFront}

@@ -17,7 +17,7 @@ use Rattle.hurd_tmpfs.specs.Tree.{new_tmpfs}
 use Rattle.hurd_tmpfs.proofs.Beginning.{begins_tree}
 use Rattle.hurd_trans_iface.specs.Meaning.{begin}
 use Rattle.hurd_world.proofs.FirstWorld.{first_sound}
-use Rattle.hurd_run.specs.Scripts.{scripts}
+use Rattle.hurd_shell.specs.Scripts.{scripts}
 use Rattle.hurd_pairs.specs.Differences.{IsSaid, SaysSeen, SaysTold, SeeAlike, SeeOther}
 use Rattle.hurd_pairs.specs.Moments.{FirstOther, Moment, TellOther, TellSame, moments}
 use Rattle.hurd_pairs.specs.Told.{ToldBySeen}

@@ -3,7 +3,7 @@ use Rattle.std.specs.Prelude.{◌≡◌, ℕ, Bool, List, [], ◌++◌, Option, 
 use Rattle.hurd_creds.specs.declared.name.TaskId.{TaskId}
 use Rattle.hurd_sight.specs.Reach.{among}
 use Rattle.hurd_dialogue.specs.Sorts.{Sort}
-use Rattle.hurd_run.specs.Scripts.{scripts}
+use Rattle.hurd_shell.specs.Scripts.{scripts}
 use Rattle.hurd_teaching.specs.Learners.{tasks_named}
 use Rattle.hurd_teaching.specs.Programs.{AreThese}
 use Rattle.hurd_teaching.specs.declared.learners.Learners.{Learners}

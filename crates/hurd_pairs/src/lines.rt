@@ -1,7 +1,7 @@
 //! At which line of a text a part of it stands.
 ghost use Rattle.std.specs.Prelude.{◌≡◌, IfOk};
 ghost use Rattle.hurd_words.specs.Lines.{lines_of};
-ghost use Rattle.hurd_run.specs.Scripts.{scripts};
+ghost use Rattle.hurd_shell.specs.Scripts.{scripts};
 ghost use Rattle.hurd_pairs.specs.Lines.{line_before, numbers_from};
 ghost use Rattle.hurd_pairs.specs.Reports.{lines_in};
 

@@ -2,7 +2,7 @@
 ghost use Rattle.std.specs.Prelude.{◌≡◌, ℕ, List, true, Err, IfErr, IfOk};
 ghost use Rattle.std.specs.Io.KnownBytes.{Appends};
 ghost use Rattle.hurd_dialogue.specs.Sorts.{Begins};
-ghost use Rattle.hurd_run.specs.Scripts.{scripts};
+ghost use Rattle.hurd_shell.specs.Scripts.{scripts};
 ghost use Rattle.hurd_teaching.specs.Programs.{AreThese};
 ghost use Rattle.hurd_terminal.specs.declared.fault.Fault.TheVariants.{Write};
 ghost use Rattle.hurd_pairs.specs.Reports.{IsFaulty, PairPrints};

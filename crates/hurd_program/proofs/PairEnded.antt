@@ -1,7 +1,7 @@
 -- How a run of two scripts ended.
 use Rattle.std.proofs.Common.{◌≡◌, ◌≢◌, ◌∙◌, ◌⊎◌, inl, inr, refl, ap, subst, ℕ, List, [], ◌++◌, Option, Result, Err, codes, true}
 use Rattle.std.specs.Io.KnownBytes.{Appends}
-use Rattle.hurd_run.specs.Scripts.{scripts}
+use Rattle.hurd_shell.specs.Scripts.{scripts}
 use Rattle.hurd_words.specs.Escapes.{escaped}
 use Rattle.hurd_terminal.specs.Faults.{Says, line_of, status_of}
 use Rattle.hurd_terminal.specs.declared.fault.Fault.{Fault}

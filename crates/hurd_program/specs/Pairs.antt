@@ -1,7 +1,7 @@
 -- The program that runs two scripts side by side.
 use Rattle.std.specs.Prelude.{◌≡◌, ◌≢◌, ◌⊎◌, ℕ, true, List, [], ◌++◌, Option, Some, None, Result, Ok, Err, IfSome, codes, decimal, take}
 use Rattle.std.specs.Io.KnownBytes.{Appends}
-use Rattle.hurd_run.specs.Scripts.{scripts}
+use Rattle.hurd_shell.specs.Scripts.{scripts}
 use Rattle.hurd_terminal.specs.Faults.{IsReadFault, Says, line_of, of_file, status_of}
 use Rattle.hurd_terminal.specs.declared.fault.Fault.{Fault}
 use Rattle.hurd_terminal.specs.declared.fault.Fault.TheVariants.{Memory, Write}

@@ -3,7 +3,7 @@ use Rattle.std.specs.Prelude.{ℕ, Option, Some, None, Result, Err, string_bytes
 use Rattle.hurd_calls.specs.Lists.{lists}
 use Rattle.hurd_dialogue.specs.Sorts.{Sort, running}
 use Rattle.hurd_teaching.specs.Drawings.{drawing}
-use Rattle.hurd_run.specs.Scripts.{scripts}
+use Rattle.hurd_shell.specs.Scripts.{scripts}
 use Rattle.hurd_teaching.specs.Programs.{learning, seeing}
 use Rattle.hurd_terminal.specs.Runs.{Program}
 use Rattle.hurd_terminal.specs.declared.fault.Fault.{Fault}

@@ -1,6 +1,6 @@
 //! Two scripts are run side by side.
 ghost use Rattle.std.specs.Prelude.{◌≡◌, ◌⊎◌, ◌++◌, ℕ, List, Result, Err, IfOk, OnOk, codes};
-ghost use Rattle.hurd_run.specs.Scripts.{scripts};
+ghost use Rattle.hurd_shell.specs.Scripts.{scripts};
 ghost use Rattle.hurd_terminal.specs.Faults.{Says, line_of, status_of};
 ghost use Rattle.hurd_terminal.specs.declared.fault.Fault.{Fault};
 ghost use Rattle.hurd_words.specs.Escapes.{escaped};

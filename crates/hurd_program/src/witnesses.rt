@@ -1,6 +1,6 @@
 //! A script is printed with what some learn, and how they could be told it.
 ghost use Rattle.std.specs.Prelude.{◌≡◌};
-ghost use Rattle.hurd_run.specs.Scripts.{scripts};
+ghost use Rattle.hurd_shell.specs.Scripts.{scripts};
 ghost use Rattle.hurd_terminal.specs.Runs.{Ends, Exits};
 ghost use Rattle.hurd_witnesses.specs.Finding.{finding};
 ghost use Rattle.hurd_program.specs.Requests.{bad_line};

@@ -15,7 +15,7 @@ use Rattle.hurd_shell.specs.declared.session.Want.TheVariants.{Done, Output, Ser
 use Rattle.hurd_world.specs.Held.{state_of}
 use Rattle.hurd_world.specs.Noting.{NotesWhatIsTouched}
 use Rattle.hurd_world.proofs.NotingLaws.{notes_refl, notes_trans}
-use Rattle.hurd_run.specs.Scripts.{way_of}
+use Rattle.hurd_shell.specs.Scripts.{way_of}
 use Rattle.hurd_run.proofs.WayLaws.{task_next}
 
 -- one part

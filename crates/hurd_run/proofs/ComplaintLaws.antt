@@ -4,7 +4,7 @@ use Rattle.hurd_dialogue.specs.Complaints.{complaint_at, complaint_by}
 use Rattle.hurd_script.specs.Flaws.{flaw_at, flaw_text}
 use Rattle.hurd_script.specs.Script.{bad}
 use Rattle.hurd_script.specs.declared.flaw.ScriptFlaw.{ScriptFlaw}
-use Rattle.hurd_run.specs.Scripts.{scripts}
+use Rattle.hurd_shell.specs.Scripts.{scripts}
 
 -- what is said where a script is bad at this line, if it is
 said_at : List ℕ → Option ℕ → List ℕ

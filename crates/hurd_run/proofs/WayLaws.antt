@@ -14,7 +14,7 @@ use Rattle.hurd_shell.specs.Session.{View, command_on, left_of, next_task}
 use Rattle.hurd_shell.specs.Transcript.{Maker, dialogue, part_by, answer_to, tells, told_by}
 use Rattle.hurd_shell.specs.declared.phase.Phase.{Phase}
 use Rattle.hurd_shell.proofs.IsolationLaws.{played_told}
-use Rattle.hurd_run.specs.Scripts.{scripts, way_of}
+use Rattle.hurd_shell.specs.Scripts.{scripts, way_of}
 use Rattle.hurd_run.proofs.ComplaintLaws.{bad_said}
 use Rattle.hurd_script.specs.declared.flaw.ScriptFlaw.TheVariants.{Length}
 

@@ -1,6 +1,6 @@
 //! A script on its way.
 ghost use Rattle.std.specs.Prelude.{◌≤◌, length, map, string_bytes};
-ghost use Rattle.hurd_run.specs.Scripts.{scripts, way_of};
+ghost use Rattle.hurd_shell.specs.Scripts.{scripts, way_of};
 
 use crate::session::{booted, complaint_of, next_part, parsed};
 use hurd_creds::TaskId;

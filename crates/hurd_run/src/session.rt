@@ -10,7 +10,7 @@ ghost use Rattle.hurd_world.specs.Held.{state_of};
 ghost use Rattle.hurd_world.specs.Noting.{NotesWhatIsTouched};
 ghost use Rattle.hurd_dialogue.specs.Parts.{Goes};
 ghost use Rattle.hurd_run.specs.Faults.{NotBooted, NotRead};
-ghost use Rattle.hurd_run.specs.Scripts.{scripts, way_of};
+ghost use Rattle.hurd_shell.specs.Scripts.{scripts, way_of};
 
 use hurd_dialogue::{boxed, complaint};
 use hurd_kinds::{ServerBox, server_for};

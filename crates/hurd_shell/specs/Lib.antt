@@ -11,3 +11,4 @@ pub mod Outputs
 pub mod Isolation
 pub mod Looks
 pub mod Chosen
+pub mod Scripts

@@ -1,6 +1,6 @@
 -- A bad script: its line is said. Any other end is that of the printing.
 use Rattle.std.proofs.Common.{◌∙◌, Err, sym}
-use Rattle.hurd_run.specs.Scripts.{scripts}
+use Rattle.hurd_shell.specs.Scripts.{scripts}
 use Rattle.hurd_program.proofs.Ended.{bad_ends, other_ends, was_bad}
 use Rattle.hurd_witnesses.specs.Finding.{finding}
 use Rattle.hurd_program.proofs.witnesses.find_read.Goals as goal

@@ -1,6 +1,6 @@
 -- What was read is told; else that it can't be read, or that there is no memory, is said.
 use Rattle.std.proofs.Common.{Err}
-use Rattle.hurd_run.specs.Scripts.{scripts}
+use Rattle.hurd_shell.specs.Scripts.{scripts}
 use Rattle.hurd_terminal.specs.declared.fault.Fault.TheVariants.{Memory}
 use Rattle.hurd_terminal.proofs.RunLaws.{ran_out}
 use Rattle.hurd_run.proofs.WayLaws.{scripts_limited}
