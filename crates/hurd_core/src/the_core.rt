@@ -1,5 +1,5 @@
 //! The core.
-ghost use Rattle.std.specs.Prelude.{◌≡◌, [], ◌∷◌, Some, None, Ok, IfErr, IfOk};
+ghost use Rattle.std.specs.Prelude.{◌≡◌, [], ◌∷◌, Some, None, Ok, Err, IfErr, IfOk};
 ghost use Rattle.std.specs.Option.{option_map};
 ghost use Rattle.hurd_trans_iface.specs.Answers.{header_after, link_edits};
 ghost use Rattle.hurd_trans_iface.specs.Behaviour.{edits_of, reading, told_of, writing, resizing};
@@ -15,7 +15,7 @@ ghost use Rattle.hurd_machine.specs.declared.call.Reply.TheVariants.{Done};
 ghost use Rattle.hurd_core.specs.Core.{Does, attaching, naming_asks, without_box, making_asks, making_dir, making_dir_asks, making_open, receive_asks, room_asks, send_asks, settled_edits, started_over, world_of};
 ghost use Rattle.hurd_core.specs.Control.{plan_options};
 ghost use Rattle.hurd_core.specs.ToMake.{new_node_of};
-ghost use Rattle.hurd_core.specs.Users.{home_of};
+ghost use Rattle.hurd_core.specs.Users.{AreUsers, home_of};
 
 use crate::named::NamedByRights;
 use crate::to_make::{NodeToMake, ServerToMake};
@@ -59,17 +59,30 @@ impl<S: Server> Core<S> {
         ensures ok { IfOk result (λ c. world_of S.meaning c ≡ world_from (state_of (booted (S.meaning boot))) ports.state) }
         ensures err { IfErr result (λ e. e ≡ (Errno.ENOMEM, boot)) }
     {
-        let Ok(mut users) = Users::with_capacity(alloc, 1) else {
+        let Some(users) = users::first(alloc, &ports) else {
             return Err((Errno::ENOMEM, boot));
         };
-        let nodes = Nodes::starting(alloc, boot)?;
-        ports.rights_are_few();
-        users::add(&mut users, Some(BOOT_NAME), ports.uses(BOOT_NAME));
-        Ok(Core {
-            nodes,
-            ports,
-            users,
-        })
+        Core::over(Nodes::starting(alloc, boot), ports, users)
+    }
+
+    /// A core of the first nodes, unless these were refused, with these ports, whose users are counted.
+    fn over(
+        nodes: Result<Nodes<S>, (Errno, S)>,
+        ports: Ports,
+        users: Users,
+    ) -> Result<Core<S>, (Errno, S)>
+        requires { IfOk nodes (λ n. AreUsers users.entries n.sites ports.state.tasks) }
+        ensures ok { IfOk result (λ c. (nodes ≡ Ok c.nodes) × (c.ports ≡ ports)) }
+        ensures err { IfErr result (λ e. nodes ≡ Err e) }
+    {
+        match nodes {
+            Ok(nodes) => Ok(Core {
+                nodes,
+                ports,
+                users,
+            }),
+            Err(refused) => Err(refused),
+        }
     }
 
     /// The servers with their nodes, to be looked at. Takes no memory.

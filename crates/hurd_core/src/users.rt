@@ -6,9 +6,10 @@ ghost use Rattle.std.specs.Prelude.{◌≡◌, ◌≤◌, ◌<◌, ◌+◌, Bool
 ghost use Rattle.indexmap.specs.IndexMap.{spare};
 ghost use Rattle.hurd_creds.specs.declared.name.Name.{Name};
 ghost use Rattle.hurd_nodes.specs.Held.{home_in};
+ghost use Rattle.hurd_nodes.specs.Shown.{boot_name};
 ghost use Rattle.hurd_creds.specs.Weights.{if_so};
 ghost use Rattle.hurd_creds.specs.Counts.{counted};
-ghost use Rattle.hurd_creds.specs.Names.{is_one};
+ghost use Rattle.hurd_creds.specs.Names.{is_one, same_name};
 ghost use Rattle.hurd_ports.specs.Counts.{most_counted};
 ghost use Rattle.hurd_ports.specs.Tables.{count_rights, uses_node};
 ghost use Rattle.hurd_ports.specs.declared.table.Right.{Right};
@@ -19,9 +20,10 @@ ghost use Rattle.hurd_core.specs.Users.{home_used, reseated};
 use crate::the_core::Core;
 use hurd_creds::counts::{self, Counts};
 use hurd_creds::{NodeName, ServerName};
-use hurd_nodes::Nodes;
+use hurd_nodes::{BOOT_NAME, Nodes};
 use hurd_ports::{Ports, Right};
 use hurd_trans_iface::Server;
+use std::alloc::Global;
 
 /// How many rights there are to use nodes of each server.
 pub(crate) type Users = Counts;
@@ -45,6 +47,18 @@ pub(crate) fn home_used<S: Server>(nodes: &Nodes<S>, right: &Right) -> Option<Se
         Right::Control(_) => None,
         Right::Start(_) => None,
     }
+}
+
+/// How many rights use the boot root, if its server is the only one; none if memory runs out.
+pub(crate) fn first(alloc: Global, ports: &Ports) -> Option<Users>
+    ensures { IfSome result (λ users. (s : Name) → counted users.entries s ≡ if_so (same_name s boot_name) (count_rights (uses_node boot_name) ports.now.state.tasks)) }
+{
+    let Ok(mut users) = Users::with_capacity(alloc, 1) else {
+        return None;
+    };
+    ports.rights_are_few();
+    add(&mut users, Some(BOOT_NAME), ports.uses(BOOT_NAME));
+    Some(users)
 }
 
 /// So many users of a server more, if there is a server. There is room for one server more.
