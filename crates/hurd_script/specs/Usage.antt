@@ -76,9 +76,13 @@ HasListed rows listed = HasNode rows listed.0 × (one_of (codes "itself") rows �
 abbrev pub own_flag : ℕ → Rule
 own_flag letter = letter_flag (letter ∷ []) letter
 
+-- with a flag for each of these letters
+abbrev pub with_letters : App → List ℕ → App
+with_letters app letters = fold (λ app letter. with_rule app (own_flag letter)) app letters
+
 -- `settrans`, which takes a node and eight flags
 abbrev pub settrans_app : App
-settrans_app = fold (λ app letter. with_rule app (own_flag letter)) (node_app (codes "settrans")) (codes "apcxgkfo")
+settrans_app = with_letters (node_app (codes "settrans")) (codes "apcxgkfo")
 
 -- the row of a flag says what is told of it, where it says anything
 abbrev pub Tells : List Row → ℕ → Bool → Type 0

@@ -1,10 +1,10 @@
 //! The words of `settrans`. Clap reads flags.
-ghost use Rattle.std.specs.Prelude.{◌≡◌, ◌≤◌, [], IfOk, drop, length, map, option_map, string_bytes};
+ghost use Rattle.std.specs.Prelude.{◌≡◌, ◌≤◌, [], IfOk, codes, drop, length, map, option_map, string_bytes};
 ghost use Rattle.std.specs.List.{list_all};
 ghost use Rattle.clap.specs.Words.{app_of, found_of, rows_of, with_rule};
 ghost use Rattle.hurd_script.specs.Flags.{is_flag_word};
 ghost use Rattle.hurd_script.specs.Settrans.{are_known_once, flag_count, flags_from, from_node, is_at_odds, is_known, leading_flags, letters_of, setting_of};
-ghost use Rattle.hurd_script.specs.Usage.{IsFound, letter_flag, settrans_app};
+ghost use Rattle.hurd_script.specs.Usage.{IsFound, letter_flag, settrans_app, with_letters};
 
 use crate::usage::{is_flag_word, letter_flag, matched, node_command};
 use clap::{ArgMatches, Command};
@@ -131,18 +131,32 @@ fn with_flag<'a>(
     command.arg(letter_flag(alloc, name, letter))
 }
 
-/// A command that takes flags of eight letters, and a node.
-fn settrans_command<'a>(alloc: Global) -> Result<Command<'a>, AllocError>
-    ensures { IfOk result (λ command. app_of command ≡ settrans_app) }
+/// The flags that say how an active translator goes.
+fn leaving_flags<'a>(alloc: Global, command: Command<'a>) -> Result<Command<'a>, AllocError>
+    ensures { IfOk result (λ command-2. app_of command-2 ≡ with_letters (app_of command.entry) (codes "gkfo")) }
 {
-    let command = with_flag(alloc, node_command(alloc, "settrans")?, "a", 'a')?;
-    let command = with_flag(alloc, command, "p", 'p')?;
-    let command = with_flag(alloc, command, "c", 'c')?;
-    let command = with_flag(alloc, command, "x", 'x')?;
     let command = with_flag(alloc, command, "g", 'g')?;
     let command = with_flag(alloc, command, "k", 'k')?;
     let command = with_flag(alloc, command, "f", 'f')?;
     with_flag(alloc, command, "o", 'o')
+}
+
+/// The flags that say what is set.
+fn setting_flags<'a>(alloc: Global, command: Command<'a>) -> Result<Command<'a>, AllocError>
+    ensures { IfOk result (λ command-2. app_of command-2 ≡ with_letters (app_of command.entry) (codes "apcx")) }
+{
+    let command = with_flag(alloc, command, "a", 'a')?;
+    let command = with_flag(alloc, command, "p", 'p')?;
+    let command = with_flag(alloc, command, "c", 'c')?;
+    with_flag(alloc, command, "x", 'x')
+}
+
+/// A command that takes flags of eight letters, and a node.
+fn settrans_command<'a>(alloc: Global) -> Result<Command<'a>, AllocError>
+    ensures { IfOk result (λ command. app_of command ≡ settrans_app) }
+{
+    let command = setting_flags(alloc, node_command(alloc, "settrans")?)?;
+    leaving_flags(alloc, command)
 }
 
 /// The flags that clap found.
