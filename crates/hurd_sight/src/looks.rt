@@ -45,11 +45,11 @@ impl Sight {
         ensures looks { IfOk result (λ sight. Looks (among tasks.now) (world_from (shown S.meaning nodes.now) ports.now.state) sight) }
         ensures gathered { IfOk result (λ sight. (sight.tasks.items ≡ tasks.now) × Gathered (world_from (shown S.meaning nodes.now) ports.now.state) sight) }
     {
-        let near = Near::of(alloc, nodes, ports, tasks)?;
         let rights = RightNames::of(alloc, ports, tasks)?;
-        let tasks = Vec::from_slice(alloc, tasks)?;
+        let own_tasks = Vec::from_slice(alloc, tasks)?;
+        let near = Near::of(alloc, nodes, ports, tasks)?;
         Ok(Sight {
-            tasks,
+            tasks: own_tasks,
             reach: near.reach,
             found: near.found,
             rights,
