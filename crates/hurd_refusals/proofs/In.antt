@@ -23,12 +23,12 @@ same_number d e [] h = refl
 same_number d e (x ∷ xs) h = ap₂ (λ (b c : Bool). b || c) (ap (λ n. number_of x == n) h) (same_number d e xs h)
 
 -- The first of two tests that both hold does.
-and_one : (b c : Bool) → (b && c) ≡ true → b ≡ true
+pub and_one : (b c : Bool) → (b && c) ≡ true → b ≡ true
 and_one true c h = refl
 and_one false c h = h
 
 -- The second one does.
-and_other : (b c : Bool) → (b && c) ≡ true → c ≡ true
+pub and_other : (b c : Bool) → (b && c) ≡ true → c ≡ true
 and_other true c h = h
 and_other false c h = absurd (true≢false (sym h))
 
@@ -75,6 +75,12 @@ pub given_in : {B : Type 0} {es : List Errno} (e : Errno) (c : Bool) (k : Result
 unfolding given
 given_in e true k out h = h refl
 given_in e false k out h = err_in out
+
+-- The same, if the error is one of these where the test fails.
+pub given_if : {B : Type 0} {es : List Errno} (e : Errno) (c : Bool) (k : Result B Errno) → (c ≡ false → is_among e es ≡ true) → (c ≡ true → In es k) → In es (given e c k)
+unfolding given
+given_if e true k out h = h refl
+given_if e false k out h = err_in (out refl)
 
 -- What follows from an answer is refused by these alone, if the answer is.
 pub first_in : {A B : Type 0} {es : List Errno} (x : Result A Errno) (k : A → Result B Errno) → In es x → ((a : A) → x ≡ Ok a → In es (k a)) → In es (first x k)
