@@ -27,6 +27,11 @@ pub and_one : (b c : Bool) → (b && c) ≡ true → b ≡ true
 and_one true c h = refl
 and_one false c h = h
 
+-- Two tests that hold both do.
+pub both_true : (b c : Bool) → b ≡ true → c ≡ true → (b && c) ≡ true
+both_true true c h k = k
+both_true false c h k = h
+
 -- The second one does.
 pub and_other : (b c : Bool) → (b && c) ≡ true → c ≡ true
 and_other true c h = h
@@ -38,7 +43,7 @@ either d e es true c at h more is = sym (same_number d e es (eqb-true _ _ at)) �
 either d e es false c at h more is = more is
 
 -- An error among these is among those, if each of these is.
-within : (e : Errno) (ds es : List Errno) → are_among ds es ≡ true → is_among e ds ≡ true → is_among e es ≡ true
+pub within : (e : Errno) (ds es : List Errno) → are_among ds es ≡ true → is_among e ds ≡ true → is_among e es ≡ true
 within e [] es h is = absurd (true≢false (sym is))
 within e (d ∷ ds) es h is = either d e es (number_of d == number_of e) (is_among e ds) refl (and_one _ _ h) (within e ds es (and_other (is_among d es) _ h)) is
 
