@@ -1,9 +1,8 @@
 -- By which errors what the calls share is refused: rights, ports, opens, and what may be made and named.
-use Rattle.std.proofs.Common.{List, ◌≡◌, ℕ, Bool, true, false, Option, Some, None, [], ◌∷◌, refl, sym, ◌∙◌, ap, subst, true≢false, ◌&&◌}
-use Rattle.std.specs.Prelude.{if◌then◌else◌, not, is_some, nat_lt, Result, Ok, Err}
-use Rattle.hurd_creds.specs.declared.attrs.Kind.TheVariants.{File, Dir}
-use Rattle.hurd_creds.specs.declared.errno.Errno.TheVariants.{ENOENT, EBADF, EEXIST, EXDEV, ENOTDIR, EISDIR, EROFS, EOPNOTSUPP, EDIED, ESRCH, EOVERFLOW, ENOSPC}
-use Rattle.hurd_machine.proofs.Common.{Body, Content, Listing, Errno, Io, IoRight, Kind, Name, Named, Node, Right, ServerInfo, Task, World, are_kin, both_asks, edit_by, entry_of, get, handle_asks, header_at, home_at, info_at, io_right_of, is_dir, is_made, is_taken, keeps_tree, link_by, link_in, links_at, makes_at, most_links, on, open_at, or_refuse, port_asks, ports_of, right_at, right_in, sets_attrs_at, task_at, task_of, counts_for, overfills, space_at}
+use Rattle.std.proofs.Common.{List, ◌≡◌, ℕ, Bool, true, Option, Some, None, [], ◌∷◌, refl, sym, ◌∙◌, true≢false}
+use Rattle.std.specs.Prelude.{not, is_some, nat_lt, Result, Ok, Err}
+use Rattle.hurd_creds.specs.declared.errno.Errno.TheVariants.{EBADF, EEXIST, EXDEV, ENOTDIR, EISDIR, EROFS, EOPNOTSUPP, EDIED, ESRCH, EOVERFLOW, ENOSPC}
+use Rattle.hurd_machine.proofs.Common.{Errno, Kind, Name, Node, Right, ServerInfo, Task, World, are_kin, both_asks, edit_by, entry_of, get, handle_asks, home_at, info_at, io_right_of, is_dir, is_made, is_taken, keeps_tree, link_by, link_in, links_at, makes_at, most_links, port_asks, ports_of, right_at, right_in, sets_attrs_at, task_at, task_of, counts_for, overfills, space_at}
 use Rattle.hurd_trans_iface.specs.Nodes.{linked}
 use Rattle.hurd_nodes.specs.Shown.{made_by}
 use Rattle.hurd_ports.specs.Tables.{right_of, io_of, io_right_in}

@@ -1,6 +1,6 @@
 -- By which errors calls on the entries of directories are refused.
-use Rattle.std.proofs.Common.{List, ◌≡◌, ℕ, Bool, true, false, Option, Some, None, [], ◌∷◌, refl, sym, true≢false}
-use Rattle.std.specs.Prelude.{if◌then◌else◌, Result, Ok, Err}
+use Rattle.std.proofs.Common.{List, ◌≡◌, ℕ, true, Option, Some, None, [], ◌∷◌, refl, sym, true≢false}
+use Rattle.std.specs.Prelude.{Ok}
 use Rattle.hurd_creds.specs.Names.{same_name}
 use Rattle.hurd_creds.specs.declared.mode.Mode.{Mode}
 use Rattle.hurd_creds.specs.declared.open_flags.OpenFlags.{OpenFlags}
@@ -16,9 +16,8 @@ use Rattle.hurd_dirs.specs.Link.{link_asks, plan_link}
 use Rattle.hurd_dirs.specs.Make.{mkdir_asks, plan_mkdir}
 use Rattle.hurd_dirs.specs.Remove.{found_asks, rmdir_asks, taking_asks, unlink_asks}
 use Rattle.hurd_dirs.specs.Rename.{gives_way, leaves_asks, old_asks, rename_asks, trees_ask}
-use Rattle.hurd_refusals.specs.Errors.{is_among}
-use Rattle.hurd_refusals.proofs.In.{Among, In, answered_among, are_among, done_among, err_in, first_in, given_in, if_in, more_in, ok_in, on_in}
-use Rattle.hurd_refusals.proofs.Asked.{both_in, links_in, link_errors, make_errors, port_in}
+use Rattle.hurd_refusals.proofs.In.{Among, In, answered_among, are_among, done_among, first_in, given_in, if_in, more_in, ok_in, on_in}
+use Rattle.hurd_refusals.proofs.Asked.{both_in, links_in, make_errors, port_in}
 use Rattle.hurd_refusals.proofs.Rooms.{making_dir_in, making_in}
 
 -- Not all bytes are a name.

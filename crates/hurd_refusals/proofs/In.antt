@@ -1,11 +1,11 @@
 -- Lists of errors, and answers that are refused by none but these.
-use Rattle.std.proofs.Common.{List, ◌≡◌, ℕ, Bool, true, false, Option, Some, None, [], ◌∷◌, refl, sym, ◌∙◌, ap, ap₂, subst, true≢false, ◌&&◌, ◌||◌, ◌==◌}
+use Rattle.std.proofs.Common.{List, ◌≡◌, Bool, true, false, Option, Some, None, [], ◌∷◌, refl, sym, ◌∙◌, ap, ap₂, subst, true≢false, ◌&&◌, ◌||◌, ◌==◌}
 use Rattle.std.specs.Prelude.{if◌then◌else◌, Result, Ok, Err}
 use Rattle.std.proofs.lemmas.Bool.{eqb-true}
 use Rattle.hurd_creds.specs.Errors.{number_of}
 use Rattle.hurd_creds.specs.declared.errno.Errno.{Errno}
-use Rattle.hurd_machine.proofs.Common.{Plan, Reply, answered, first, given, on, or_refuse, refuse}
-use Rattle.hurd_machine.specs.declared.call.Reply.TheVariants.{Refused, Back}
+use Rattle.hurd_machine.proofs.Common.{Plan, Reply, answered, first, given, on, or_refuse}
+use Rattle.hurd_machine.specs.declared.call.Reply.TheVariants.{Refused}
 use Rattle.hurd_refusals.specs.Errors.{is_among, refused_by}
 
 -- each of these is among those

@@ -1,11 +1,10 @@
 -- In a sound world each call is refused by one of its errors, or not at all.
-use Rattle.std.proofs.Common.{List, ◌≡◌, ℕ, Bool, true, Option, Some, None, [], ◌∷◌, refl}
+use Rattle.std.proofs.Common.{List, ℕ, Option, Some, None, refl}
 use Rattle.hurd_creds.specs.Access.{owns}
-use Rattle.hurd_creds.specs.declared.errno.Errno.TheVariants.{EWOULDBLOCK, EPERM, EBADF, ESRCH, EOVERFLOW}
 use Rattle.hurd_machine.proofs.Common.{Call, Errno, Meaning, Plan, Reply, Sound, World, any_mode, box_in, handing_back}
 use Rattle.hurd_machine.specs.declared.call.Call.TheVariants.{Plain, FileSetTranslator, FsysStartup}
 use Rattle.hurd_machine.specs.declared.call.PlainCall.TheVariants.{PortDeallocate, PortSend, PortReceive, AuthMakeauth, DirLookup, IoRead, IoWrite, IoSeek, IoStat, IoReadable, IoGetOpenmodes, IoSetAllOpenmodes, IoDuplicate, IoReauthenticate, IoRestrictAuth, IoIdentity, FileSetSize, FileChmod, FileChown, FileCheckAccess, FileGetTranslator, FileGetTranslatorCntl, FileGetcontrol, StartFailed, FsysGetroot, FsysGoaway, FsysGetOptions, FsysSetOptions, DirReaddir, DirMkdir, DirRmdir, DirUnlink, DirLink, DirMkfile, DirRename}
-use Rattle.hurd_machine.specs.declared.call.Reply.TheVariants.{Refused, Back}
+use Rattle.hurd_machine.specs.declared.call.Reply.TheVariants.{Refused}
 use Rattle.hurd_machine.specs.Plan.{returning}
 use Rattle.hurd_files.specs.Access.{gives}
 use Rattle.hurd_laws.specs.Step.{plan_of}

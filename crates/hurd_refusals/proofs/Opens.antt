@@ -1,10 +1,10 @@
 -- By which errors calls on open nodes are refused: reading, writing, seeking, sharing, sizes and attributes.
-use Rattle.std.proofs.Common.{List, ◌≡◌, ℕ, ℤ, pos, negsuc, zero, suc, Bool, true, false, Option, Some, None, [], ◌∷◌, refl, sym, subst, true≢false}
-use Rattle.std.specs.Prelude.{Result, Ok, Err}
+use Rattle.std.proofs.Common.{List, ◌≡◌, ℕ, ℤ, pos, negsuc, zero, suc, Bool, true, Option, Some, None, [], ◌∷◌, refl, subst}
+use Rattle.std.specs.Prelude.{Ok}
 use Rattle.hurd_creds.specs.Access.{IdSets}
 use Rattle.hurd_creds.specs.declared.attrs.Attrs.{Attrs}
 use Rattle.hurd_creds.specs.declared.errno.Errno.TheVariants.{EPERM, EBADF, ENOTDIR, EISDIR, EINVAL, EFBIG, EPIPE, EWOULDBLOCK, EIO, EOPNOTSUPP, EDIED, ESRCH, EOVERFLOW, ENOSPC}
-use Rattle.hurd_machine.proofs.Common.{Body, CanBeWritten, Content, Errno, Listing, Name, READ, Sound, WRITE, World, any_mode, handle_asks, names_of}
+use Rattle.hurd_machine.proofs.Common.{Body, CanBeWritten, Content, Errno, Listing, READ, Sound, WRITE, World, any_mode, handle_asks, names_of}
 use Rattle.hurd_machine.specs.declared.call.Whence.{Whence}
 use Rattle.hurd_machine.proofs.Asks.{first_ok}
 use Rattle.hurd_io.specs.declared.offset.IoAt.{IoAt}
@@ -14,7 +14,7 @@ use Rattle.hurd_io.specs.Sharing.{share_asks}
 use Rattle.hurd_files.specs.Access.{setting_asks}
 use Rattle.hurd_files.specs.Files.{plan_set_size, readdir_asks, set_size_asks}
 use Rattle.hurd_refusals.specs.Errors.{is_among}
-use Rattle.hurd_refusals.proofs.In.{Among, In, answered_among, are_among, done_among, err_in, first_in, given_in, more_in, ok_in, on_in}
+use Rattle.hurd_refusals.proofs.In.{Among, In, answered_among, done_among, err_in, first_in, given_in, more_in, ok_in}
 use Rattle.hurd_refusals.proofs.Asked.{handle_in, io_in, port_errors, port_in, sets_attrs_in}
 use Rattle.hurd_refusals.proofs.Rooms.{room_in}
 use Rattle.hurd_refusals.proofs.Served.{can_write, reads_in, resizes_in, writes_in}

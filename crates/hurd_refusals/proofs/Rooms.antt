@@ -1,11 +1,9 @@
 -- By which errors tasks are refused that name things, send and receive rights, and make nodes.
-use Rattle.std.proofs.Common.{List, ◌≡◌, ℕ, Bool, true, false, Option, Some, None, [], ◌∷◌, refl, sym, true≢false}
+use Rattle.std.proofs.Common.{List, ◌≡◌, ℕ, true, Some, [], ◌∷◌, refl}
 use Rattle.std.specs.Prelude.{Result, Ok, Err}
-use Rattle.hurd_creds.specs.Access.{IdSets}
 use Rattle.hurd_creds.specs.declared.attrs.Kind.TheVariants.{File, Dir}
-use Rattle.hurd_creds.specs.declared.errno.Errno.TheVariants.{EPERM, EBADF, EEXIST, ENOTDIR, EROFS, EDIED, ESRCH, EOVERFLOW, EWOULDBLOCK, EINVAL}
-use Rattle.hurd_machine.proofs.Common.{Errno, Io, Control, Name, Node, Right, World, get, ports_of}
-use Rattle.hurd_machine.specs.declared.call.Reply.TheVariants.{Done}
+use Rattle.hurd_creds.specs.declared.errno.Errno.TheVariants.{EBADF, EEXIST, EDIED, ESRCH, EOVERFLOW, EWOULDBLOCK, EINVAL}
+use Rattle.hurd_machine.proofs.Common.{Errno, Name, Node, Right, World, get, ports_of}
 use Rattle.hurd_trans_iface.specs.Answers.{is_taken}
 use Rattle.hurd_ports.specs.Tables.{right_of}
 use Rattle.hurd_core.specs.Core.{NewNodeAt, making_asks, making_dir_asks, naming_asks, receive_asks, room_asks, send_asks}

@@ -5,19 +5,19 @@ use Rattle.std.specs.List.{list_all}
 use Rattle.std.proofs.lemmas.Bool.{ltb-true}
 use Rattle.hurd_creds.specs.Bits.{WRITE}
 use Rattle.hurd_creds.specs.Limits.{most_size}
-use Rattle.hurd_creds.specs.declared.errno.Errno.TheVariants.{EBADF, EISDIR, EINVAL, EIO, EFBIG, EPIPE, EWOULDBLOCK, EOPNOTSUPP, EDIED, ENOSPC}
+use Rattle.hurd_creds.specs.declared.errno.Errno.TheVariants.{EBADF, EISDIR, EINVAL, EIO, EFBIG, EPIPE, EWOULDBLOCK, EDIED, ENOSPC}
 use Rattle.hurd_trans_iface.specs.Arguments.{behind, no_options}
 use Rattle.hurd_trans_iface.specs.Behaviour.{Did, Effect, fitting, only, reading, resizing, size_left, writing}
 use Rattle.hurd_trans_iface.specs.Kinds.{behaviour_of}
 use Rattle.hurd_trans_iface.specs.Kinds.Drip.{dripped}
-use Rattle.hurd_trans_iface.specs.Kinds.Fifo.{fifo_read, fifo_write, room_in, taken_in}
-use Rattle.hurd_trans_iface.specs.Kinds.Hello.{hello_options, most_text, says_text, short_text, text_in}
-use Rattle.hurd_trans_iface.specs.Kinds.Tmpfs.{cut_file, has_size, read_bytes, size_in, size_said, size_word, tmpfs_options, write_file}
+use Rattle.hurd_trans_iface.specs.Kinds.Fifo.{fifo_read, room_in, taken_in}
+use Rattle.hurd_trans_iface.specs.Kinds.Hello.{most_text, says_text, short_text, text_in}
+use Rattle.hurd_trans_iface.specs.Kinds.Tmpfs.{has_size, read_bytes, size_in, size_said, size_word}
 use Rattle.hurd_trans_iface.specs.Meaning.{root_of}
-use Rattle.hurd_trans_iface.specs.Nodes.{is_dir, with_size}
+use Rattle.hurd_trans_iface.specs.Nodes.{is_dir}
 use Rattle.hurd_trans_iface.specs.declared.begun.ServerKind.{ServerKind}
 use Rattle.hurd_trans_iface.specs.declared.begun.ServerKind.TheVariants as kind
-use Rattle.hurd_machine.proofs.Common.{Body, CanBeWritten, Content, Errno, Header, Listing, Name, Node, Question, ServerInfo, Sound, World, asked_at, asked_of, counts_for, get, handle_asks, header_at, info_at, overfills, space_at, takes_options, gives_text, shape_by}
+use Rattle.hurd_machine.proofs.Common.{Body, CanBeWritten, Content, Errno, Header, Listing, Name, Node, Question, ServerInfo, Sound, World, asked_at, asked_of, counts_for, get, handle_asks, info_at, overfills, space_at, takes_options, gives_text, shape_by}
 use Rattle.std.specs.Option.{option_map}
 use Rattle.hurd_nodes.specs.Shown.{info_taken}
 use Rattle.hurd_machine.specs.World.{is_text}

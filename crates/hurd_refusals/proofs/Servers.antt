@@ -1,5 +1,5 @@
 -- By which errors calls on servers are refused: sending them away, control, options, and setting and starting them.
-use Rattle.std.proofs.Common.{List, ◌≡◌, ℕ, Bool, true, false, Option, Some, None, [], ◌∷◌, refl, sym, true≢false}
+use Rattle.std.proofs.Common.{List, ◌≡◌, ℕ, Bool, true, false, Option, Some, None, [], ◌∷◌, refl}
 use Rattle.std.specs.Prelude.{Result, Ok, Err, is_some}
 use Rattle.hurd_creds.specs.Access.{IdSets}
 use Rattle.hurd_creds.specs.declared.trans_flags.GoawayFlags.{GoawayFlags}
@@ -12,10 +12,10 @@ use Rattle.hurd_fsys.specs.Aims.{aims_asks}
 use Rattle.hurd_fsys.specs.Controls.{control_asks}
 use Rattle.hurd_fsys.specs.Owned.{owned_asks}
 use Rattle.hurd_fsys.specs.Fsys.{goaway_asks, options_asks, plan_control, plan_set_options, seated_asks, served_asks}
-use Rattle.hurd_fsys.specs.Setting.{box_aims, plan_set_translator, seat_asks, seated, seating, sets_nothing, setter_asks, setting, setting_where, stored_asks}
+use Rattle.hurd_fsys.specs.Setting.{box_aims, plan_set_translator, seat_asks, seated, sets_nothing, setter_asks, setting_where, stored_asks}
 use Rattle.hurd_fsys.specs.Starting.{Startup, pending_asks, plan_startup, start_aims, started, startup_asks, waiting_asks}
 use Rattle.hurd_refusals.specs.Errors.{is_among}
-use Rattle.hurd_refusals.proofs.In.{Among, In, answered_among, are_among, done_among, err_in, first_in, given_in, more_in, ok_in, on_in, refused_among}
+use Rattle.hurd_refusals.proofs.In.{Among, In, answered_among, are_among, done_among, first_in, given_in, more_in, ok_in, on_in, refused_among}
 use Rattle.hurd_refusals.proofs.Asked.{port_errors, port_in}
 use Rattle.hurd_refusals.proofs.Rooms.{control_in-all, naming_in, options_among, room_in}
 use Rattle.hurd_refusals.proofs.Targets.{resolve_all_in, target_errors}

@@ -1,6 +1,6 @@
 -- By which errors the targets of servers are refused, and lookups.
-use Rattle.std.proofs.Common.{List, ◌≡◌, ℕ, zero, suc, Bool, true, false, Option, Some, None, [], ◌∷◌, refl, sym, true≢false}
-use Rattle.std.specs.Prelude.{Result, Ok, Err}
+use Rattle.std.proofs.Common.{List, ◌≡◌, ℕ, zero, suc, true, Option, Some, None, [], ◌∷◌, refl, sym, true≢false}
+use Rattle.std.specs.Prelude.{Result}
 use Rattle.hurd_creds.specs.Access.{IdSets}
 use Rattle.hurd_creds.specs.declared.mode.Mode.{Mode}
 use Rattle.hurd_creds.specs.declared.open_flags.OpenFlags.{OpenFlags}
@@ -9,8 +9,8 @@ use Rattle.hurd_creds.specs.declared.errno.Errno.TheVariants.{ENOENT, EBADF, EAC
 use Rattle.hurd_machine.proofs.Common.{Name, World}
 use Rattle.hurd_lookup.specs.declared.resolve.Landing.{Landing}
 use Rattle.hurd_lookup.specs.declared.resolve.Landing.TheVariants.{Lands, Sleeps}
-use Rattle.hurd_lookup.specs.Lookup.{Makes, NewPort, Opens, Outcome, Retries, Starts, ending_asks, finding, found_asks, request, whole_asks}
-use Rattle.hurd_lookup.specs.Resolve.{Leg, awake, from_top, landed, leg_asks, leg_at, leg_by, leg_request, legs, most_looks, path_end, resolve, resolve_all}
+use Rattle.hurd_lookup.specs.Lookup.{Makes, NewPort, Opens, Outcome, Retries, Starts, ending_asks, finding, request, whole_asks}
+use Rattle.hurd_lookup.specs.Resolve.{Leg, awake, from_top, landed, leg_at, leg_by, leg_request, legs, most_looks, path_end, resolve, resolve_all}
 use Rattle.hurd_lookup.specs.Nested.{first_among, most_asked, needed, or_needed}
 use Rattle.hurd_lookup.specs.Seeking.{plan_lookup, seeking_asks, sooner}
 use Rattle.hurd_lookup.specs.Getroot.{entrance_asks, getroot_asks, plan_getroot, root_request}
@@ -109,10 +109,10 @@ finding_among has w t flags found p =
 pub lookup_among : (w : World) (t p : ℕ) (path : List ℕ) (flags : OpenFlags) (mode : Mode) → Among lookup_errors (plan_lookup w t p path flags mode).reply
 lookup_among w t p path flags mode = finding_among refl w t flags (seeking_asks w t p path flags mode) (
     first_in _ _ (
-        first_in _ _ (io_in refl w t p) (λ q eq.
-        on_in _ _ _ refl (λ h eh.
-        given_in _ _ _ refl (λ short.
-        walk_in w (request path flags mode) (record { base = refl; exclusive = λ is. refl; writes = λ is. refl; creates = λ is. refl }) _ q.node _)))) (λ o e.
+    first_in _ _ (io_in refl w t p) (λ q eq.
+    on_in _ _ _ refl (λ h eh.
+    given_in _ _ _ refl (λ short.
+    walk_in w (request path flags mode) (record { base = refl; exclusive = λ is. refl; writes = λ is. refl; creates = λ is. refl }) _ q.node _)))) (λ o e.
     sooner_in w t o))
 
 abbrev pub getroot_errors : List Errno

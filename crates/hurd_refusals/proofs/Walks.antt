@@ -1,6 +1,6 @@
 -- By which errors a walk along names is refused, and the crossing of servers on the way.
-use Rattle.std.proofs.Common.{List, ◌≡◌, ℕ, Bool, true, false, Option, Some, None, [], ◌∷◌, refl, sym, ◌∙◌, ap, true≢false, ◌&&◌}
-use Rattle.std.specs.Prelude.{if◌then◌else◌, not, Result, Ok, Err, codes, slice_get}
+use Rattle.std.proofs.Common.{List, ◌≡◌, ℕ, Bool, true, false, Option, Some, None, [], ◌∷◌, refl, true≢false, ◌&&◌}
+use Rattle.std.specs.Prelude.{not, Result, codes, slice_get}
 use Rattle.std.specs.Str.{bytes_eq}
 use Rattle.hurd_creds.specs.Access.{IdSets}
 use Rattle.hurd_creds.specs.Bits.{asks, WRITE, CREATE, NOLINK}
@@ -15,10 +15,10 @@ use Rattle.hurd_machine.proofs.Common.{Header, Name, ServerInfo, World, info_at,
 use Rattle.hurd_lookup.specs.declared.request.Request.{Request}
 use Rattle.hurd_lookup.specs.declared.walk.Next.{Next}
 use Rattle.hurd_lookup.specs.declared.walk.Next.TheVariants.{There, Entry, Branch, Back, Absent}
-use Rattle.hurd_lookup.specs.Lookup.{Active, Authority, Crossed, Outcome, Waiting, across, arrive, came_in_at, cross, crossing, enter, follow, go_back, hold_on, is_exclusive, is_last, make_asks, miss, open_asks, over, step_asks, step_by, step_up, stepped, to_cross, to_parent, walk}
+use Rattle.hurd_lookup.specs.Lookup.{Active, Authority, Crossed, Outcome, Waiting, across, came_in_at, cross, crossing, enter, follow, go_back, hold_on, is_exclusive, is_last, make_asks, miss, open_asks, over, step_asks, step_up, stepped, to_cross, to_parent, walk}
 use Rattle.hurd_refusals.specs.Errors.{is_among}
 use Rattle.hurd_refusals.proofs.In.{In, and_one, and_other, are_among, both_true, err_in, first_in, given_if, given_in, if_in, ok_in, on_in, within}
-use Rattle.hurd_refusals.proofs.Asked.{make_errors, makes_in}
+use Rattle.hurd_refusals.proofs.Asked.{makes_in}
 
 -- A test that is found not to fail holds.
 not_not : (b : Bool) → not b ≡ false → b ≡ true
@@ -42,7 +42,6 @@ abbrev pub write_errors : List Errno
 write_errors = EISDIR ∷ EROFS ∷ []
 
 module _ (w : World) {es : List Errno} (r : Request) (has : are_among cross_errors es ≡ true) (writes : asks r.flags WRITE ≡ true → are_among write_errors es ≡ true) where
-
   -- The last node is opened.
   pub open_in : (ids : IdSets) (n : Name) (ways : List Parent) → In es (open_asks w ids r n ways)
   open_in ids n ways =
@@ -103,7 +102,7 @@ module _ (w : World) {es : List Errno} (r : Request) (s : Suits es r) where
   make_in q d name creates =
       let some : are_among create_errors es ≡ true = s.creates creates in
       first_in _ _ (makes_in (both_true _ _ (on EDIED refl) (both_true _ _ (on ENOTDIR refl) (both_true _ _ (within EROFS create_errors es some refl) refl)))
-          w d (Some name) File refl (λ x ex taken. within EEXIST create_errors es some refl)) (λ u eu.
+      w d (Some name) File refl (λ x ex taken. within EEXIST create_errors es some refl)) (λ u eu.
       on_in _ _ _ (on EDIED refl) (λ h eh.
       given_in _ _ _ (on EACCES refl) (λ may.
       on_in _ _ _ (on EACCES refl) (λ owner eo.

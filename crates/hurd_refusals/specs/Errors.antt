@@ -1,5 +1,5 @@
 -- By which errors each call may be refused. ENOMEM is none of them: the written machine knows no want of memory.
-use Rattle.std.specs.Prelude.{◌≡◌, ◌||◌, ◌==◌, ℕ, Bool, true, false, List, [], ◌∷◌, ◌++◌, Option, Some, None}
+use Rattle.std.specs.Prelude.{◌≡◌, ◌||◌, ◌==◌, ℕ, Bool, true, false, List, [], ◌∷◌, Option, Some, None}
 use Rattle.hurd_creds.specs.Errors.{number_of}
 use Rattle.hurd_creds.specs.declared.errno.Errno.{Errno}
 use Rattle.hurd_creds.specs.declared.errno.Errno.TheVariants.{EPERM, ENOENT, EIO, EBADF, EACCES, EBUSY, EEXIST, EXDEV, ENOTDIR, EISDIR, EINVAL, EFBIG, EROFS, EPIPE, EWOULDBLOCK, ELOOP, ENAMETOOLONG, ENOTEMPTY, EOPNOTSUPP, EDIED, ENXIO, ESRCH, EOVERFLOW, ENOSPC}
