@@ -93,6 +93,39 @@ unfolding first
 first_in (Err e) k out h = err_in (out.by e refl)
 first_in (Ok a) k out h = h a refl
 
+-- What follows from what follows.
+
+pub lead_ok : {A B : Type 0} {es : List Errno} (a : A) (k : A → Result B Errno) → In es (k a) → In es (first (Ok a) k)
+unfolding first
+lead_ok a k p = p
+
+pub lead_err : {A B : Type 0} {es : List Errno} (e : Errno) (k : A → Result B Errno) → is_among e es ≡ true → In es (first (Err e) k)
+unfolding first
+lead_err e k out = err_in out
+
+pub lead_if : {A B : Type 0} {es : List Errno} (b : Bool) (x y : Result A Errno) (k : A → Result B Errno) → In es (first x k) → In es (first y k) → In es (first (if b then x else y) k)
+lead_if true x y k px py = px
+lead_if false x y k px py = py
+
+pub lead_either : {A B : Type 0} {es : List Errno} (b : Bool) (x y : A) (k : A → Result B Errno) → In es (k x) → In es (k y) → In es (k (if b then x else y))
+lead_either true x y k px py = px
+lead_either false x y k px py = py
+
+pub lead_on : {A B C : Type 0} {es : List Errno} (e : Errno) (x : Option A) (j : A → Result B Errno) (k : B → Result C Errno) → is_among e es ≡ true → ((a : A) → In es (first (j a) k)) → In es (first (on e x j) k)
+unfolding on first
+lead_on e None j k out h = err_in out
+lead_on e (Some a) j k out h = h a
+
+pub lead_given : {B C : Type 0} {es : List Errno} (e : Errno) (c : Bool) (x : Result B Errno) (k : B → Result C Errno) → is_among e es ≡ true → In es (first x k) → In es (first (given e c x) k)
+unfolding given first
+lead_given e true x k out h = h
+lead_given e false x k out h = err_in out
+
+pub lead_first : {A B C : Type 0} {es : List Errno} (x : Result A Errno) (j : A → Result B Errno) (k : B → Result C Errno) → In es x → ((a : A) → In es (first (j a) k)) → In es (first (first x j) k)
+unfolding first
+lead_first (Err e) j k out h = err_in (out.by e refl)
+lead_first (Ok a) j k out h = h a
+
 -- a reply that is refused by one of these errors, or not at all
 pub record Among (es : List Errno) (r : Reply) : Type 0 where
   pub by : (e : Errno) → refused_by r ≡ Some e → is_among e es ≡ true

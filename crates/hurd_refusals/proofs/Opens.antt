@@ -7,8 +7,7 @@ use Rattle.hurd_creds.specs.declared.errno.Errno.TheVariants.{EPERM, EBADF, ENOT
 use Rattle.hurd_machine.proofs.Common.{Body, CanBeWritten, Content, Errno, Listing, READ, Sound, WRITE, World, any_mode, handle_asks, names_of}
 use Rattle.hurd_machine.specs.declared.call.Whence.{Whence}
 use Rattle.hurd_machine.proofs.Asks.{first_ok}
-use Rattle.hurd_io.specs.declared.offset.IoAt.{IoAt}
-use Rattle.hurd_io.specs.Io.{offset_of, plan_read, plan_write, read_asks, stat_asks, write_asks}
+use Rattle.hurd_io.specs.Io.{offset_of, plan_read, plan_write, read_asks, reads, stat_asks, write_asks}
 use Rattle.hurd_io.specs.Opens.{place_asks, readable_asks, seek_asks}
 use Rattle.hurd_io.specs.Sharing.{share_asks}
 use Rattle.hurd_files.specs.Access.{setting_asks}
@@ -31,8 +30,12 @@ read_among w t p amount offset =
     answered_among (read_asks w t p offset) _ (first_in _ _ (handle_in refl w t p READ) (λ a is. given_in _ _ _ refl (λ file. first_in _ _ (offset_in refl offset) (λ o eo. ok_in)))) (λ a is.
     answered_among _ _ (reads_in refl w a.node a.at _ _) (λ d told. done_among refl))
 
+-- what a function takes
+abbrev Takes : {A B : Type 0} → (A → B) → Type 0
+Takes {A} {B} f = A
+
 -- What is written was open to write.
-written_at : (w : World) → Sound w → (t p : ℕ) (offset : ℤ) (a : IoAt) → write_asks w t p offset ≡ Ok a → CanBeWritten w a.node
+written_at : (w : World) → Sound w → (t p : ℕ) (offset : ℤ) (a : Takes (reads 0 w)) → write_asks w t p offset ≡ Ok a → CanBeWritten w a.node
 written_at w s t p offset a is =
     let h = first_ok _ _ a is in
     let place = first_ok _ _ a h.2 in

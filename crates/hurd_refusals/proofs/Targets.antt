@@ -6,66 +6,59 @@ use Rattle.hurd_creds.specs.declared.mode.Mode.{Mode}
 use Rattle.hurd_creds.specs.declared.open_flags.OpenFlags.{OpenFlags}
 use Rattle.hurd_creds.specs.declared.errno.Errno.{Errno}
 use Rattle.hurd_creds.specs.declared.errno.Errno.TheVariants.{ENOENT, EBADF, EACCES, EEXIST, ENOTDIR, EISDIR, EROFS, ELOOP, ENAMETOOLONG, EDIED, ESRCH, EOVERFLOW}
-use Rattle.hurd_machine.proofs.Common.{Name, World}
-use Rattle.hurd_lookup.specs.declared.resolve.Landing.{Landing}
-use Rattle.hurd_lookup.specs.declared.resolve.Landing.TheVariants.{Lands, Sleeps}
+use Rattle.hurd_machine.proofs.Common.{Name, World, first}
 use Rattle.hurd_lookup.specs.Lookup.{Makes, NewPort, Opens, Outcome, Retries, Starts, ending_asks, finding, request, whole_asks}
 use Rattle.hurd_lookup.specs.Resolve.{Leg, awake, from_top, landed, leg_at, leg_by, leg_request, legs, most_looks, path_end, resolve, resolve_all}
 use Rattle.hurd_lookup.specs.Nested.{first_among, most_asked, needed, or_needed}
 use Rattle.hurd_lookup.specs.Seeking.{plan_lookup, seeking_asks, sooner}
 use Rattle.hurd_lookup.specs.Getroot.{entrance_asks, getroot_asks, plan_getroot, root_request}
 use Rattle.hurd_refusals.specs.Errors.{is_among}
-use Rattle.hurd_refusals.proofs.In.{Among, In, answered_among, are_among, done_among, err_in, first_in, given_in, more_in, ok_in, on_in}
+use Rattle.hurd_refusals.proofs.In.{Among, In, answered_among, are_among, done_among, err_in, first_in, given_in, lead_err, lead_first, lead_given, lead_ok, lead_on, more_in, ok_in, on_in, within}
 use Rattle.hurd_refusals.proofs.Asked.{io_in}
 use Rattle.hurd_refusals.proofs.Rooms.{control_in-all, room_in}
-use Rattle.hurd_refusals.proofs.Walks.{Suits, cross_in, walk_in}
+use Rattle.hurd_refusals.proofs.Walks.{Suits, cross_in, walk_errors, walk_in}
 
+-- by which errors targets are refused
 abbrev pub target_errors : List Errno
-target_errors = EDIED ∷ ENAMETOOLONG ∷ ENOTDIR ∷ EACCES ∷ ENOENT ∷ ELOOP ∷ []
-
--- Without flags nothing is written or made.
-leg_suits : (path : List ℕ) → Suits target_errors (leg_request path)
-leg_suits path = record {
-  base = refl;
-  exclusive = λ is. absurd (true≢false (sym is));
-  writes = λ is. absurd (true≢false (sym is));
-  creates = λ is. absurd (true≢false (sym is));
-}
-
--- A path from the top begins with a slash.
-top_in : (path : List ℕ) → In target_errors (from_top path)
-top_in path = given_in _ _ _ refl (λ is. ok_in)
-
-leg_at_in : (name : List ℕ) (o : Option NewPort) → In target_errors (leg_at name o)
-leg_at_in name None = top_in name
-leg_at_in name (Some e) = ok_in
-
-landed_in : (onward : Leg → Result Landing Errno) → ((l : Leg) → In target_errors (onward l)) → (o : Outcome) → In target_errors (landed onward o)
-landed_in onward p (Opens e) = ok_in
-landed_in onward p (Makes s f ids ways) = err_in refl
-landed_in onward p (Retries kind name o) = first_in _ _ (leg_at_in name o) (λ l e. p l)
-landed_in onward p (Starts s) = ok_in
-
--- Each look is refused by one of these, or not at all.
-legs_in : (k : ℕ) (w : World) (ids : IdSets) (l : Leg) → In target_errors (legs k w ids l)
-legs_in zero w ids l = err_in refl
-legs_in (suc k) w ids l =
-    on_in _ _ _ refl (λ h eh.
-    given_in _ _ _ refl (λ short.
-    first_in _ _ (walk_in w (leg_request l.path) (leg_suits l.path) (leg_by ids l) l.node _) (λ o e. landed_in (legs k w ids) (legs_in k w ids) o)))
-
-path_in : (w : World) (ids : IdSets) (path : List ℕ) → In target_errors (path_end w ids path)
-unfolding path_end
-path_in w ids path = first_in _ _ (top_in path) (λ l e. legs_in most_looks w ids l)
-
-awake_in : {es : List Errno} (asleep : Errno) → is_among asleep es ≡ true → (l : Landing) → In es (awake asleep l)
-awake_in asleep has (Lands n) = ok_in
-awake_in asleep has (Sleeps n) = err_in has
+target_errors = walk_errors
 
 -- A path leads to a node, unless it is refused by one of these, or a translator waits there.
-resolve_in : {es : List Errno} → are_among target_errors es ≡ true → (asleep : Errno) → is_among asleep es ≡ true → (w : World) (ids : IdSets) (path : List ℕ) → In es (resolve asleep w ids path)
-unfolding resolve
-resolve_in has asleep waits w ids path = first_in _ _ (more_in target_errors has (path_in w ids path)) (λ l e. awake_in asleep waits l)
+module _ {es : List Errno} (has : are_among target_errors es ≡ true) (asleep : Errno) (waits : is_among asleep es ≡ true) (w : World) (ids : IdSets) where
+  -- Without flags nothing is written or made.
+  leg_suits : (path : List ℕ) → Suits es (leg_request path)
+  leg_suits path = record {
+    base = has;
+    exclusive = λ is. absurd (true≢false (sym is));
+    writes = λ is. absurd (true≢false (sym is));
+    creates = λ is. absurd (true≢false (sym is));
+  }
+
+  -- A path from the top begins with a slash.
+  top_in : (path : List ℕ) → In es (from_top path)
+  top_in path = given_in _ _ _ (within ENOENT walk_errors es has refl) (λ is. ok_in)
+
+  leg_at_in : (name : List ℕ) (o : Option NewPort) → In es (leg_at name o)
+  leg_at_in name None = top_in name
+  leg_at_in name (Some e) = ok_in
+
+  -- What a look comes to is a node, or leads on.
+  landed_in : (k : ℕ) → ((l : Leg) → In es (first (legs k w ids l) (awake asleep))) → (o : Outcome) → In es (first (landed (legs k w ids) o) (awake asleep))
+  landed_in k p (Opens e) = lead_ok _ _ ok_in
+  landed_in k p (Makes s f own ways) = lead_err _ _ (within ENOENT walk_errors es has refl)
+  landed_in k p (Retries kind name o) = lead_first _ _ _ (leg_at_in name o) (λ l. p l)
+  landed_in k p (Starts s) = lead_ok _ _ (err_in waits)
+
+  -- So does each look after another.
+  legs_in : (k : ℕ) (l : Leg) → In es (first (legs k w ids l) (awake asleep))
+  legs_in zero l = lead_err _ _ (within ELOOP walk_errors es has refl)
+  legs_in (suc k) l =
+      lead_on _ _ _ _ (within EDIED walk_errors es has refl) (λ h.
+      lead_given _ _ _ _ (within ENAMETOOLONG walk_errors es has refl) (
+      lead_first _ _ _ (walk_in w (leg_request l.path) (leg_suits l.path) (leg_by ids l) l.node _) (λ o. landed_in k (legs_in k) o)))
+
+  resolve_in : (path : List ℕ) → In es (resolve asleep w ids path)
+  unfolding resolve path_end
+  resolve_in path = lead_first _ _ _ (top_in path) (λ l. legs_in most_looks l)
 
 -- The same of several.
 pub resolve_all_in : {es : List Errno} → are_among target_errors es ≡ true → (asleep : Errno) → is_among asleep es ≡ true → (w : World) (ids : IdSets) (paths : List (List ℕ)) → In es (resolve_all asleep w ids paths)

@@ -11,14 +11,25 @@ use Rattle.hurd_trans_iface.specs.Nodes.{is_dir}
 use Rattle.hurd_trans_iface.specs.declared.root.Crossing.{Crossing}
 use Rattle.hurd_trans_iface.specs.declared.root.Crossing.TheVariants as crossing
 use Rattle.hurd_ports.specs.declared.parents.Parent.{Parent}
-use Rattle.hurd_machine.proofs.Common.{Header, Name, ServerInfo, World, info_at, is_server_root, only_reads}
-use Rattle.hurd_lookup.specs.declared.request.Request.{Request}
-use Rattle.hurd_lookup.specs.declared.walk.Next.{Next}
-use Rattle.hurd_lookup.specs.declared.walk.Next.TheVariants.{There, Entry, Branch, Back, Absent}
-use Rattle.hurd_lookup.specs.Lookup.{Active, Authority, Crossed, Outcome, Waiting, across, came_in_at, cross, crossing, enter, follow, go_back, hold_on, is_exclusive, is_last, make_asks, miss, open_asks, over, step_asks, step_up, stepped, to_cross, to_parent, walk}
+use Rattle.hurd_machine.proofs.Common.{Header, Name, ServerInfo, World, body_at, entry_of, first, header_at, info_at, is_server_root, only_reads}
+use Rattle.hurd_lookup.specs.Lookup.{Active, Authority, Crossed, Outcome, Waiting, across, branch_in, came_in_at, cross, crossing, enter, entry_or, follow, go_back, hold_on, is_exclusive, is_last, make_asks, miss, open_asks, over, shows_name, step_asks, step_by, step_up, stepped, to_cross, to_parent, walk}
+use Rattle.hurd_lookup.specs.Resolve.{leg_request}
+use Rattle.hurd_core.specs.Branches.{branches_at}
 use Rattle.hurd_refusals.specs.Errors.{is_among}
-use Rattle.hurd_refusals.proofs.In.{In, and_one, and_other, are_among, both_true, err_in, first_in, given_if, given_in, if_in, ok_in, on_in, within}
+use Rattle.hurd_refusals.proofs.In.{In, and_one, and_other, are_among, both_true, err_in, first_in, given_if, given_in, if_in, lead_either, lead_given, lead_if, lead_on, ok_in, on_in, within}
 use Rattle.hurd_refusals.proofs.Asked.{makes_in}
+
+-- what a function makes
+abbrev Comes : {A B : Type 0} → (A → B) → Type 0
+Comes {A} {B} f = B
+
+-- how what a lookup finds is to be opened, or made
+abbrev pub Asked : Type 0
+Asked = Comes leg_request
+
+-- where one name leads
+abbrev Stepped : Type 0
+Stepped = Comes (entry_or None)
 
 -- A test that is found not to fail holds.
 not_not : (b : Bool) → not b ≡ false → b ≡ true
@@ -41,7 +52,7 @@ cross_errors = EDIED ∷ ENAMETOOLONG ∷ ENOTDIR ∷ EACCES ∷ ELOOP ∷ []
 abbrev pub write_errors : List Errno
 write_errors = EISDIR ∷ EROFS ∷ []
 
-module _ (w : World) {es : List Errno} (r : Request) (has : are_among cross_errors es ≡ true) (writes : asks r.flags WRITE ≡ true → are_among write_errors es ≡ true) where
+module _ (w : World) {es : List Errno} (r : Asked) (has : are_among cross_errors es ≡ true) (writes : asks r.flags WRITE ≡ true → are_among write_errors es ≡ true) where
   -- The last node is opened.
   pub open_in : (ids : IdSets) (n : Name) (ways : List Parent) → In es (open_asks w ids r n ways)
   open_in ids n ways =
@@ -84,13 +95,13 @@ abbrev pub create_errors : List Errno
 create_errors = EROFS ∷ EEXIST ∷ []
 
 -- of the errors that some flags alone bring, those that these bring are among these
-pub record Suits (es : List Errno) (r : Request) : Type 0 where
+pub record Suits (es : List Errno) (r : Asked) : Type 0 where
   pub base : are_among walk_errors es ≡ true
   pub exclusive : is_exclusive r ≡ true → is_among EEXIST es ≡ true
   pub writes : asks r.flags WRITE ≡ true → are_among write_errors es ≡ true
   pub creates : asks r.flags CREATE ≡ true → are_among create_errors es ≡ true
 
-module _ (w : World) {es : List Errno} (r : Request) (s : Suits es r) where
+module _ (w : World) {es : List Errno} (r : Asked) (s : Suits es r) where
   on : (d : Errno) → is_among d walk_errors ≡ true → is_among d es ≡ true
   on d is = within d walk_errors es s.base is
 
@@ -108,22 +119,6 @@ module _ (w : World) {es : List Errno} (r : Request) (s : Suits es r) where
       on_in _ _ _ (on EACCES refl) (λ owner eo.
       given_in _ _ _ (on ENOENT refl) (λ stands.
       on_in _ _ _ (on EDIED refl) (λ home e. ok_in))))))
-
-  -- `..` leads up.
-  parent_in : (o : Option Name) → In es (to_parent o)
-  parent_in None = err_in (on ENOENT refl)
-  parent_in (Some p) = ok_in
-
-  up_in : (ways : List Parent) (d : Name) (h : Header) → In es (step_up w ways d h)
-  up_in ways d h = if_in (came_in_at ways d) _ _ (λ is. ok_in) (λ no. if_in (is_server_root w d) _ _ (λ is. ok_in) (λ no. parent_in h.parent))
-
-  -- One name is looked up.
-  step_in : (q : Authority) (d : Name) (name : List ℕ) → In es (step_asks w q d name)
-  step_in q d name =
-      on_in _ _ _ (on EDIED refl) (λ h eh.
-      given_in _ _ _ (on ENOTDIR refl) (λ dir.
-      given_in _ _ _ (on EACCES refl) (λ may.
-      if_in (bytes_eq name (codes ".")) _ _ (λ is. ok_in) (λ no. if_in (bytes_eq name (codes "..")) _ _ (λ is. up_in q.ways d h) (λ no. ok_in)))))
 
   -- A name that no entry has is missed, or a file is made.
   miss_in : (q : Authority) (d : Name) (name : List ℕ) (last : Bool) → In es (miss w q r d name last)
@@ -143,15 +138,41 @@ module _ (w : World) {es : List Errno} (r : Request) (s : Suits es r) where
   over_in q d n None names onward p = p
   over_in q d n (Some c) names onward p = given_if _ _ _ (λ out. s.exclusive (not_other (is_last names) (is_exclusive r) out)) (λ free. across_in q d n c names)
 
-  stepped_in : (q : Authority) (d : Name) (name : List ℕ) (names : List (List ℕ)) (onward : Name → Result Outcome Errno) → ((n : Name) → In es (onward n)) → (next : Next)
-      → In es (stepped w q r d name names onward next)
-  stepped_in q d name names onward p (There n) = p n
-  stepped_in q d name names onward p (Entry n) = over_in q d n (to_cross w r n names) names (onward n) (p n)
-  stepped_in q d name names onward p Back = back_in names q.ways
-  stepped_in q d name names onward p (Branch b) = ok_in
-  stepped_in q d name names onward p Absent = miss_in q d name (is_last names)
+  -- One name leads on, up, back or nowhere, or is refused by one of these.
+  module _ (q : Authority) (d : Name) (name : List ℕ) (names : List (List ℕ)) (onward : Name → Result Outcome Errno) (p : (n : Name) → In es (onward n)) where
+    abbrev steps : Stepped → Result Outcome Errno
+    steps = stepped w q r d name names onward
+
+    parent_in : (o : Option Name) → In es (first (to_parent o) steps)
+    unfolding first
+    parent_in None = err_in (on ENOENT refl)
+    parent_in (Some n) = p n
+
+    up_in : (h : Header) → In es (first (step_up w q.ways d h) steps)
+    unfolding first
+    up_in h = lead_if (came_in_at q.ways d) _ _ steps (back_in names q.ways) (lead_if (is_server_root w d) _ _ steps (p d) (parent_in h.parent))
+
+    branches_in : (bs : List Name) → In es (steps (branch_in w q.ids name bs))
+    branches_in [] = miss_in q d name (is_last names)
+    branches_in (b ∷ bs) = lead_either (shows_name w q.ids name b (header_at w b)) _ _ steps ok_in (branches_in bs)
+
+    entry_in : (o : Option Name) (next : Stepped) → In es (steps next) → In es (steps (entry_or o next))
+    entry_in None next rest = rest
+    entry_in (Some n) next rest = over_in q d n (to_cross w r n names) names (onward n) (p n)
+
+    by_in : (h : Header) → In es (first (step_by w q d h name) steps)
+    unfolding first
+    by_in h =
+        lead_if (bytes_eq name (codes ".")) _ _ steps (p d) (
+        lead_if (bytes_eq name (codes "..")) _ _ steps (up_in h) (entry_in (entry_of name (body_at w d)) (branch_in w q.ids name (branches_at w d)) (branches_in (branches_at w d))))
+
+    step_in : In es (first (step_asks w q d name) steps)
+    step_in =
+        lead_on _ _ _ steps (on EDIED refl) (λ h.
+        lead_given _ _ _ steps (on ENOTDIR refl) (
+        lead_given _ _ _ steps (on EACCES refl) (by_in h)))
 
   -- A walk comes to its end, or is refused by one of these.
   pub walk_in : (q : Authority) (d : Name) (names : List (List ℕ)) → In es (walk w q r d names)
   walk_in q d [] = given_if _ _ _ (λ out. s.exclusive (not_not (is_exclusive r) out)) (λ free. open_in w r crossed s.writes q.ids d q.ways)
-  walk_in q d (name ∷ names) = first_in _ _ (step_in q d name) (λ next e. stepped_in q d name names (λ n. walk w q r n names) (λ n. walk_in q n names) next)
+  walk_in q d (name ∷ names) = step_in q d name names (λ n. walk w q r n names) (λ n. walk_in q n names)
