@@ -55,6 +55,7 @@ mkfile_among w t p flags mode =
     answered_among (mkfile_asks w t p mode) _ (first_in _ _ (port_in refl w t p) (λ a is. first_in _ _ (dir_in refl w a) (λ u eu. on_in _ _ _ refl (λ owner eo. ok_in)))) (λ a is.
     answered_among _ _ (making_in refl w t a.1 (λ x ex taken. absurd (unnamed w t p mode a is x taken))) (λ m em. done_among refl))
   where
+    -- No entry is to name the file.
     unnamed : (w : World) (t p : ℕ) (mode : Mode) (a : Named × NewNodeAt) → mkfile_asks w t p mode ≡ Ok a → (x : Node) → is_taken a.1.entry x.body ≡ true → ⊥
     unnamed w t p mode a is x taken =
         let n = first_ok _ _ a is in
@@ -115,6 +116,7 @@ old_in : (w : World) (b : Named) (l : Name × Header) (o : Option Name) → In r
 old_in w b l None = ok_in
 old_in w b l (Some m) = if_in (same_name l.0 m) _ _ (λ itself. ok_in) (λ other. way_in w b l.1 m)
 
+-- An entry goes elsewhere, or one of these is the error.
 pub rename_in : (w : World) (t p : ℕ) (name : List ℕ) (q : ℕ) (new : List ℕ) → In rename_errors (rename_asks w t p name q new)
 rename_in w t p name q new =
     first_in _ _ (both_in refl w t p q) (λ a is.

@@ -95,32 +95,39 @@ first_in (Ok a) k out h = h a refl
 
 -- What follows from what follows.
 
+-- What follows from an answer follows.
 pub lead_ok : {A B : Type 0} {es : List Errno} (a : A) (k : A → Result B Errno) → In es (k a) → In es (first (Ok a) k)
 unfolding first
 lead_ok a k p = p
 
+-- A refusal stays one.
 pub lead_err : {A B : Type 0} {es : List Errno} (e : Errno) (k : A → Result B Errno) → is_among e es ≡ true → In es (first (Err e) k)
 unfolding first
 lead_err e k out = err_in out
 
+-- Both ways of a test lead on to what is refused by these alone.
 pub lead_if : {A B : Type 0} {es : List Errno} (b : Bool) (x y : Result A Errno) (k : A → Result B Errno) → In es (first x k) → In es (first y k) → In es (first (if b then x else y) k)
 lead_if true x y k px py = px
 lead_if false x y k px py = py
 
+-- Both answers of a test do.
 pub lead_either : {A B : Type 0} {es : List Errno} (b : Bool) (x y : A) (k : A → Result B Errno) → In es (k x) → In es (k y) → In es (k (if b then x else y))
 lead_either true x y k px py = px
 lead_either false x y k px py = py
 
+-- An option that is wanted is there and leads on, or its error is one of these.
 pub lead_on : {A B C : Type 0} {es : List Errno} (e : Errno) (x : Option A) (j : A → Result B Errno) (k : B → Result C Errno) → is_among e es ≡ true → ((a : A) → In es (first (j a) k)) → In es (first (on e x j) k)
 unfolding on first
 lead_on e None j k out h = err_in out
 lead_on e (Some a) j k out h = h a
 
+-- A test holds and what follows leads on, or its error is one of these.
 pub lead_given : {B C : Type 0} {es : List Errno} (e : Errno) (c : Bool) (x : Result B Errno) (k : B → Result C Errno) → is_among e es ≡ true → In es (first x k) → In es (first (given e c x) k)
 unfolding given first
 lead_given e true x k out h = h
 lead_given e false x k out h = err_in out
 
+-- What follows from an answer leads on, if the answer is refused by these alone.
 pub lead_first : {A B C : Type 0} {es : List Errno} (x : Result A Errno) (j : A → Result B Errno) (k : B → Result C Errno) → In es x → ((a : A) → In es (first (j a) k)) → In es (first (first x j) k)
 unfolding first
 lead_first (Err e) j k out h = err_in (out.by e refl)

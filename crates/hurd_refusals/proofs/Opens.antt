@@ -54,6 +54,7 @@ place_in : {es : List Errno} → is_among EINVAL es ≡ true → (place : ℤ) �
 place_in has (pos n) = given_in _ _ _ has (λ low. ok_in)
 place_in has (negsuc n) = err_in has
 
+-- A seek is refused by these errors alone.
 pub seek_in : (w : World) (t p : ℕ) (offset : ℤ) (whence : Whence) → In (EBADF ∷ EDIED ∷ EINVAL ∷ ESRCH ∷ []) (seek_asks w t p offset whence)
 seek_in w t p offset whence = first_in _ _ (handle_in refl w t p any_mode) (λ a is. first_in _ _ (place_in refl _) (λ at e. ok_in))
 
@@ -90,6 +91,7 @@ names_in None = err_in refl
 names_in (Some (Content bs)) = err_in refl
 names_in (Some (Listing es)) = ok_in
 
+-- A directory is read that is open to read, or one of these is the error.
 pub readdir_in : (w : World) (t p : ℕ) → In (EBADF ∷ EDIED ∷ ENOTDIR ∷ ESRCH ∷ []) (readdir_asks w t p)
 readdir_in w t p =
     first_in _ _ (handle_in refl w t p READ) (λ a is.

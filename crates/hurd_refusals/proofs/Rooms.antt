@@ -40,6 +40,7 @@ making_in {es} has w t f taken =
     first_in _ _ (makes_in (more_make has) w f.dir f.entry File refl taken) (λ u eu.
     more_in (ESRCH ∷ EOVERFLOW ∷ make_errors) has (on_in _ _ _ refl (λ s es. ok_in))))
   where
+    -- The errors of making are among these.
     more_make : are_among (ESRCH ∷ EOVERFLOW ∷ make_errors) es ≡ true → are_among make_errors es ≡ true
     more_make h = and_other (is_among EOVERFLOW es) _ (and_other (is_among ESRCH es) _ h)
 

@@ -81,6 +81,7 @@ fitting_in-all has None h e p = p
 fitting_in-all has (Some k) h (Err e) p = p
 fitting_in-all has (Some k) h (Ok d) p = if_in (overfills (Some k) (counts_for h) (counts_for (size_left d.size h))) _ _ (λ _. err_in has) (λ _. p)
 
+-- A node that is asked about is there with its server, or EDIED is one of these errors.
 asked_in : {T : Type 0} {es : List Errno} → is_among EDIED es ≡ true → (q : Question T) (n : Name) (w : World)
     → ((i : ServerInfo) (x : Node) → info_at w n ≡ Some i → get w.nodes n ≡ Some x → In es (fitting (space_at w n) x.header (q (behaviour_of i.kind) i.text x))) → In es (asked_at q n w)
 asked_in {T} {es} gone q n w each = go (info_at w n) (get w.nodes n) refl refl
@@ -90,6 +91,7 @@ asked_in {T} {es} gone q n w each = go (info_at w n) (get w.nodes n) refl refl
     go (Some i) None ei eo = err_in gone
     go (Some i) (Some x) ei eo = each i x ei eo
 
+-- A node that can be written may be written by its server too.
 may_write : (w : World) (n : Name) (i : ServerInfo) (x : Node) → CanBeWritten w n → info_at w n ≡ Some i → get w.nodes n ≡ Some x → Written i.kind i.text x
 may_write w n i x can ei eo = (can.0 x.header (ap (λ (o : Option Node). option_map (λ (y : Node). y.header) o) eo), ap (λ o. gives_text (shape_by o)) (sym ei) ∙ can.1)
 
@@ -151,6 +153,7 @@ tree_gives : (space : Option ℕ) (h : Header) (at amount : ℕ) (b : Body) → 
 tree_gives space h at amount (Content bs) = fits_in space h _ (itself (counts_for h))
 tree_gives space h at amount (Listing es) = refusal_in EISDIR refl space h
 
+-- Each kind of server gives bytes, or refuses by one of these errors.
 read_in : (k : ServerKind) (text : List ℕ) (x : Node) (at amount writers : ℕ) (space : Option ℕ) → In read_errors (fitting space x.header (reading at amount writers (behaviour_of k) text x))
 read_in kind.Tmpfs text x at amount writers space = tree_gives space x.header at amount x.body
 read_in kind.Hello text x at amount writers space = fits_in space x.header _ (itself (counts_for x.header))
@@ -172,26 +175,32 @@ reads_in has w n at amount writers = more_in (EDIED ∷ read_errors) has (asked_
 abbrev option_errors : List Errno
 option_errors = EINVAL ∷ []
 
+-- Most kinds take no options.
 no_options-in : (ws : List (List ℕ)) → In option_errors (no_options ws)
 no_options-in [] = ok_in
 no_options-in (w ∷ ws) = err_in refl
 
+-- A text that is too long is refused.
 short_in : (o : Option (List ℕ)) → In option_errors (short_text o)
 short_in None = err_in refl
 short_in (Some text) = if_in (nat_le (length text) most_text) _ _ (λ _. ok_in) (λ _. err_in refl)
 
+-- So is a word that says none.
 said_in : (o : Option (List ℕ)) → In option_errors (text_in o)
 said_in None = ok_in
 said_in (Some w) = short_in (behind (codes "--contents=") w)
 
+-- A word that says no size is refused.
 size_said-in : (o : Option (List ℕ)) → In option_errors (size_said o)
 size_said-in None = err_in refl
 size_said-in (Some ds) = ok_in
 
+-- A size need not be said.
 sized_in : (o : Option (List ℕ)) → In option_errors (size_in o)
 sized_in None = ok_in
 sized_in (Some w) = size_said-in (size_word w)
 
+-- Each kind takes options, or refuses them with EINVAL.
 options_in : (k : ServerKind) (ws : List (List ℕ)) → In option_errors ((behaviour_of k).set_options ws)
 options_in kind.Tmpfs ws = if_in (list_all has_size ws) _ (Err EINVAL) (λ _. sized_in (slice_get ws (length ws - 1))) (λ _. err_in refl)
 options_in kind.Hello ws = if_in (list_all says_text ws) _ (Err EINVAL) (λ _. said_in (slice_get ws (length ws - 1))) (λ _. err_in refl)

@@ -34,9 +34,11 @@ goaway_in w t c flags = first_in _ _ (control_in refl w t c) (λ k is. given_in 
 
 -- file_get_translator_cntl and file_getcontrol
 
+-- A server is active on a node, or one of these is the error.
 pub seated_in : (w : World) (t p : ℕ) → In (EBADF ∷ EDIED ∷ EPERM ∷ ENXIO ∷ ESRCH ∷ EOVERFLOW ∷ []) (seated_asks w t p)
 seated_in w t p = first_in _ _ (owned_in refl w t p) (λ n is. on_in _ _ _ refl (λ s e. ok_in))
 
+-- A node has a server.
 pub served_in : (w : World) (t p : ℕ) → In (EBADF ∷ EDIED ∷ EPERM ∷ ESRCH ∷ EOVERFLOW ∷ []) (served_asks w t p)
 served_in w t p = first_in _ _ (port_in refl w t p) (λ n is. on_in _ _ _ refl (λ s e. on_in _ _ _ refl (λ i ei. given_in _ _ _ refl (λ may. ok_in))))
 
@@ -70,16 +72,19 @@ module _ (w : World) (t : ℕ) (f : Setting) (words : List (List ℕ)) where
   box_among n None old targets = done_among refl
   box_among n (Some m) old targets = answered_among _ _ (naming_in refl w t 2) (λ x ex. done_among refl)
 
+  -- What is brought has targets, or one of these is the error.
   box_in-all : (n : Named) (box : Option Meaning) → In set_errors (box_aims w n box)
   box_in-all n None = ok_in
   box_in-all n (Some m) = aims_in refl ENXIO refl refl w _ m
 
+  -- Both halves are set, or neither.
   half_among : (box : Option Meaning) (n : Named) (b : Bool) → Among set_errors (setting_where b w t f words box n).reply
   half_among box n true = done_among refl
   half_among box n false =
       answered_among (seat_asks w f n) _ (given_in _ _ _ refl (λ may. given_in _ _ _ refl (λ free. ok_in))) (λ old is.
       answered_among _ _ (box_in-all n box) (λ targets e. box_among n box old targets))
 
+  -- A translator is set, or one of these is the error.
   pub set_translator_among : (p : ℕ) (box : Option Meaning) → Among set_errors (plan_set_translator w t p f words box).reply
   set_translator_among p box =
       answered_among (setter_asks w t p f (is_some box)) _ (first_in _ _ (owned_in refl w t p) (λ n is. given_in _ _ _ refl (λ may. ok_in))) (λ n is. half_among box n (sets_nothing f))
@@ -93,15 +98,18 @@ pending_in w t = on_in _ _ _ refl (λ s es. ok_in)
 
 -- fsys_startup
 
+-- A start finds all that it asks for, or one of these is the error.
 startup_in : (w : World) (t : ℕ) (m : Meaning) (s : PendingStart) → In start_errors (startup_asks w t m s)
 startup_in w t m s =
     first_in (waiting_asks w s) _ (on_in _ _ _ refl (λ h eh. given_in _ _ _ refl (λ waits. ok_in))) (λ h eh.
     first_in (start_aims w t m h.owner) _ (on_in _ _ _ refl (λ x ex. aims_in refl EBUSY refl refl w _ m)) (λ ns en.
     first_in _ _ (naming_in refl w t 2) (λ x ex. ok_in)))
 
+-- What is found is started.
 started_among : (t : ℕ) (s : PendingStart) (m : Meaning) (r : Result Startup Errno) → In start_errors r → Among start_errors (started t s m r).reply
 started_among t s m (Err e) p = refused_among (p.by e refl)
 started_among t s m (Ok a) p = done_among refl
 
+-- A server is started, or one of these is the error.
 pub startup_among : (w : World) (t : ℕ) (m : Meaning) → Among start_errors (plan_startup w t m).reply
 startup_among w t m = answered_among _ _ (more_in (ESRCH ∷ []) refl (pending_in w t)) (λ s is. started_among t s m (startup_asks w t m s) (startup_in w t m s))

@@ -37,6 +37,7 @@ module _ {es : List Errno} (has : are_among target_errors es ≡ true) (asleep :
   top_in : (path : List ℕ) → In es (from_top path)
   top_in path = given_in _ _ _ (within ENOENT walk_errors es has refl) (λ is. ok_in)
 
+  -- A retry goes on at a node, or from the top.
   leg_at_in : (name : List ℕ) (o : Option NewPort) → In es (leg_at name o)
   leg_at_in name None = top_in name
   leg_at_in name (Some e) = ok_in
@@ -56,6 +57,7 @@ module _ {es : List Errno} (has : are_among target_errors es ≡ true) (asleep :
       lead_given _ _ _ _ (within ENAMETOOLONG walk_errors es has refl) (
       lead_first _ _ _ (walk_in w (leg_request l.path) (leg_suits l.path) (leg_by ids l) l.node _) (λ o. landed_in k (legs_in k) o)))
 
+  -- A path is resolved.
   resolve_in : (path : List ℕ) → In es (resolve asleep w ids path)
   unfolding resolve path_end
   resolve_in path = lead_first _ _ _ (top_in path) (λ l. legs_in most_looks l)
@@ -68,10 +70,12 @@ resolve_all_in has asleep waits w ids (path ∷ paths) =
 
 -- which translator is to be started first
 
+-- A translator is started where no other is needed first.
 needed_in : (onward : Name → Result Name Errno) → ((n : Name) → In (ELOOP ∷ []) (onward n)) → (n : Name) (o : Option Name) → In (ELOOP ∷ []) (or_needed n onward o)
 needed_in onward p n None = ok_in
 needed_in onward p n (Some m) = p m
 
+-- One is found that is to be started first, or too many are asked.
 among_in : (k : ℕ) (w : World) (ids : IdSets) (n : Name) → In (ELOOP ∷ []) (first_among k w ids n)
 among_in zero w ids n = err_in refl
 among_in (suc k) w ids n = needed_in (first_among k w ids) (among_in k w ids) n (needed w ids n)
@@ -79,6 +83,7 @@ among_in (suc k) w ids n = needed_in (first_among k w ids) (among_in k w ids) n 
 abbrev pub lookup_errors : List Errno
 lookup_errors = EBADF ∷ EDIED ∷ ENAMETOOLONG ∷ ENOTDIR ∷ EACCES ∷ ENOENT ∷ EROFS ∷ EEXIST ∷ ELOOP ∷ EISDIR ∷ ESRCH ∷ EOVERFLOW ∷ []
 
+-- What a lookup finds is told, or what is to be started first.
 sooner_in : (w : World) (t : ℕ) (o : Outcome) → In lookup_errors (sooner w t o)
 sooner_in w t (Starts s) = on_in _ _ _ refl (λ x ex. first_in _ _ (more_in (ELOOP ∷ []) refl (among_in most_asked w x.ids s.node)) (λ n en. ok_in))
 sooner_in w t (Opens e) = ok_in
@@ -111,6 +116,7 @@ lookup_among w t p path flags mode = finding_among refl w t flags (seeking_asks 
 abbrev pub getroot_errors : List Errno
 getroot_errors = EBADF ∷ EDIED ∷ ENAMETOOLONG ∷ ENOTDIR ∷ ELOOP ∷ EISDIR ∷ EROFS ∷ EACCES ∷ ESRCH ∷ EOVERFLOW ∷ []
 
+-- A server is entered from a directory.
 entrance_in : (w : World) (t c dir : ℕ) → In getroot_errors (entrance_asks w t c dir)
 entrance_in w t c dir =
     first_in _ _ (control_in-all refl w t c) (λ s es.

@@ -36,11 +36,11 @@ not_not : (b : Bool) → not b ≡ false → b ≡ true
 not_not true h = refl
 not_not false h = absurd (true≢false h)
 
--- Of two tests that don't both fail the first holds, and the second.
-
+-- The first of two tests holds that do not both fail.
 not_one : (b c : Bool) → not (b && c) ≡ false → b ≡ true
 not_one b c h = and_one b c (not_not (b && c) h)
 
+-- So does the second one.
 not_other : (b c : Bool) → not (b && c) ≡ false → c ≡ true
 not_other b c h = and_other b c (not_not (b && c) h)
 
@@ -75,6 +75,7 @@ module _ (w : World) {es : List Errno} (r : Asked) (has : are_among cross_errors
   hold_in q d None names = err_in (within EDIED cross_errors es has refl)
   hold_in q d (Some n) names = on_in _ _ _ (within EDIED cross_errors es has refl) (λ h eh. given_in _ _ _ (within ELOOP cross_errors es has refl) (λ few. ok_in))
 
+  -- Each root is crossed, or one of these is the error.
   crossing_in : (c : Crossing) (q : Authority) (d root : Name) (i : ServerInfo) (names : List (List ℕ)) → In es (crossing w c q r d root i names)
   crossing_in crossing.Plain q d root i names = enter_in q d root names
   crossing_in (crossing.Link absolute) q d root i names = if_in (is_last names && asks r.flags NOLINK) _ _ (λ last. enter_in q d root names) (λ on. follow_in absolute q d i.text names)
@@ -102,9 +103,11 @@ pub record Suits (es : List Errno) (r : Asked) : Type 0 where
   pub creates : asks r.flags CREATE ≡ true → are_among create_errors es ≡ true
 
 module _ (w : World) {es : List Errno} (r : Asked) (s : Suits es r) where
+  -- An error of every walk is one of these.
   on : (d : Errno) → is_among d walk_errors ≡ true → is_among d es ≡ true
   on d is = within d walk_errors es s.base is
 
+  -- So is each error of a crossing.
   crossed : are_among cross_errors es ≡ true
   crossed = and_other (is_among ENOENT es) _ s.base
 
@@ -129,6 +132,7 @@ module _ (w : World) {es : List Errno} (r : Asked) (s : Suits es r) where
   back_in names [] = err_in (on ENOENT refl)
   back_in names (way ∷ ways) = on_in _ _ _ (on EDIED refl) (λ h eh. ok_in)
 
+  -- What is at a node is crossed.
   across_in : (q : Authority) (d n : Name) (c : Crossed) (names : List (List ℕ)) → In es (across w q r d n c names)
   across_in q d n (Active root) names = cross_in w r crossed s.writes q d root names
   across_in q d n (Waiting words) names = ok_in
@@ -143,29 +147,35 @@ module _ (w : World) {es : List Errno} (r : Asked) (s : Suits es r) where
     abbrev steps : Stepped → Result Outcome Errno
     steps = stepped w q r d name names onward
 
+    -- A directory leads to its parent, if it has one.
     parent_in : (o : Option Name) → In es (first (to_parent o) steps)
     unfolding first
     parent_in None = err_in (on ENOENT refl)
     parent_in (Some n) = p n
 
+    -- `..` leads up.
     up_in : (h : Header) → In es (first (step_up w q.ways d h) steps)
     unfolding first
     up_in h = lead_if (came_in_at q.ways d) _ _ steps (back_in names q.ways) (lead_if (is_server_root w d) _ _ steps (p d) (parent_in h.parent))
 
+    -- A branch that shows the name leads on, or it is missed.
     branches_in : (bs : List Name) → In es (steps (branch_in w q.ids name bs))
     branches_in [] = miss_in q d name (is_last names)
     branches_in (b ∷ bs) = lead_either (shows_name w q.ids name b (header_at w b)) _ _ steps ok_in (branches_in bs)
 
+    -- An entry leads on at its node.
     entry_in : (o : Option Name) (next : Stepped) → In es (steps next) → In es (steps (entry_or o next))
     entry_in None next rest = rest
     entry_in (Some n) next rest = over_in q d n (to_cross w r n names) names (onward n) (p n)
 
+    -- Each name leads on from a directory.
     by_in : (h : Header) → In es (first (step_by w q d h name) steps)
     unfolding first
     by_in h =
         lead_if (bytes_eq name (codes ".")) _ _ steps (p d) (
         lead_if (bytes_eq name (codes "..")) _ _ steps (up_in h) (entry_in (entry_of name (body_at w d)) (branch_in w q.ids name (branches_at w d)) (branches_in (branches_at w d))))
 
+    -- One name leads on from a node, or one of these is the error.
     step_in : In es (first (step_asks w q d name) steps)
     step_in =
         lead_on _ _ _ steps (on EDIED refl) (λ h.
