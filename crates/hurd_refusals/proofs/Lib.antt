@@ -1,1 +1,10 @@
+pub mod In
+pub mod Asked
+pub mod Served
+pub mod Rooms
+pub mod Opens
+pub mod Entries
+pub mod Walks
+pub mod Targets
+pub mod Servers
 pub mod Named

@@ -1,5 +1,5 @@
 -- By which errors each call may be refused. ENOMEM is none of them: the written machine knows no want of memory.
-use Rattle.std.specs.Prelude.{◌≡◌, ◌||◌, ◌==◌, ℕ, Bool, true, false, List, [], ◌∷◌, ◌++◌, Option, Some, None}
+use Rattle.std.specs.Prelude.{◌≡◌, ◌||◌, ◌==◌, ℕ, Bool, true, false, List, [], ◌∷◌, Option, Some, None}
 use Rattle.hurd_creds.specs.Errors.{number_of}
 use Rattle.hurd_creds.specs.declared.errno.Errno.{Errno}
 use Rattle.hurd_creds.specs.declared.errno.Errno.TheVariants.{EPERM, ENOENT, EIO, EBADF, EACCES, EBUSY, EEXIST, EXDEV, ENOTDIR, EISDIR, EINVAL, EFBIG, EROFS, EPIPE, EWOULDBLOCK, ELOOP, ENAMETOOLONG, ENOTEMPTY, EOPNOTSUPP, EDIED, ENXIO, ESRCH, EOVERFLOW, ENOSPC}
@@ -11,7 +11,8 @@ use Rattle.hurd_machine.specs.World.{World}
 use Rattle.hurd_machine.specs.Sound.{Sound}
 use Rattle.hurd_laws.specs.Step.{reply_of}
 
--- the errors of each call. Of a call that names new things EOVERFLOW is one: its numbers are at their greatest
+-- the errors of each call. Of a call that names new things EOVERFLOW is one: its numbers are at their greatest. ENAMETOOLONG is one of fsys_getroot: a sound world may
+-- have a link whose text is longer than a path, though no program makes one
 abbrev pub errors_of : Call → List Errno
 errors_of (Plain (PortDeallocate p)) = EBADF ∷ ESRCH ∷ []
 errors_of (Plain (PortSend p q)) = EBADF ∷ ESRCH ∷ []
@@ -38,7 +39,7 @@ errors_of (Plain (FileGetTranslatorCntl p)) = EBADF ∷ EDIED ∷ EPERM ∷ ENXI
 errors_of (Plain (FileGetcontrol p)) = EBADF ∷ EDIED ∷ EPERM ∷ ESRCH ∷ EOVERFLOW ∷ []
 errors_of (FsysStartup server) = EDIED ∷ EBUSY ∷ ENAMETOOLONG ∷ ENOTDIR ∷ EACCES ∷ ENOENT ∷ ELOOP ∷ ESRCH ∷ EOVERFLOW ∷ []
 errors_of (Plain StartFailed) = ESRCH ∷ []
-errors_of (Plain (FsysGetroot control dir flags)) = EBADF ∷ EDIED ∷ ENOTDIR ∷ ELOOP ∷ EISDIR ∷ EROFS ∷ EACCES ∷ ESRCH ∷ EOVERFLOW ∷ []
+errors_of (Plain (FsysGetroot control dir flags)) = EBADF ∷ EDIED ∷ ENAMETOOLONG ∷ ENOTDIR ∷ ELOOP ∷ EISDIR ∷ EROFS ∷ EACCES ∷ ESRCH ∷ EOVERFLOW ∷ []
 errors_of (Plain (FsysGoaway control flags)) = EBADF ∷ EDIED ∷ EBUSY ∷ ESRCH ∷ []
 errors_of (Plain (FsysGetOptions control)) = EBADF ∷ EDIED ∷ ESRCH ∷ []
 errors_of (Plain (FsysSetOptions control words)) = EBADF ∷ EDIED ∷ EINVAL ∷ ESRCH ∷ []
