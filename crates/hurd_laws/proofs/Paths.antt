@@ -22,7 +22,7 @@ entry_there : (w : World) → Sound w → (d : Name) → IsThere w d → (name :
 entry_there w s d there name n at =
     let home = s.coherent.housing.homes d there.0 there.1 in
     let kin : home_at w n ≡ home_at w d = s.coherent.tree.kin d n (entry_lists name (body_at w d) n at) in
-    s.coherent.housing.housed n home.0 (kin ∙ home.2.0)
+    s.coherent.housing.housed n home.0 (kin ∙ home.2)
 
 end_there : (w : World) → Sound w → (names : List (List ℕ)) (d n : Name) → IsThere w d → Leads w d names n → IsThere w n
 end_there w s [] d n there leads = subst (IsThere w) leads there

@@ -31,23 +31,24 @@ Calm P T = is_refused P.reply ≡ true → (p : Part) → T p → ⊥
 abbrev Still : Plan → Type 0
 Still P = is_refused P.reply ≡ true → P.changes ≡ []
 
-abbrev Both : Plan → (Part → Type 0) → Type 0
-Both P T = Still P × Calm P T
+record Both (P : Plan) (T : Part → Type 0) : Type 0 where
+  still : Still P
+  calm : Calm P T
 
 -- what isn't refused is both
 done_both : (P : Plan) (T : Part → Type 0) → is_refused P.reply ≡ false → Both P T
-done_both P T out = (λ is. absurd (true≢false (sym is ∙ out)), λ is. absurd (true≢false (sym is ∙ out)))
+done_both P T out = record { still = λ is. absurd (true≢false (sym is ∙ out)); calm = λ is. absurd (true≢false (sym is ∙ out)) }
 
 answered_both : {A : Type 0} (x : Result A Errno) (k : A → Plan) (parts : A → Part → Type 0) → ((a : A) → Both (k a) (parts a)) → Both (answered x k) (asked_parts x parts)
 unfolding answered asked_parts
-answered_both (Err e) k parts h = (λ is. refl, λ is p on. on)
+answered_both (Err e) k parts h = record { still = λ is. refl; calm = λ is p on. on }
 answered_both (Ok a) k parts h = h a
 
 -- a plan that touches nothing at all
 answered_none : {A : Type 0} (x : Result A Errno) (k : A → Plan) → ((a : A) → Still (k a)) → Both (answered x k) Nothing
 unfolding answered
-answered_none (Err e) k h = (λ is. refl, λ is p on. on)
-answered_none (Ok a) k h = (h a, λ is p on. on)
+answered_none (Err e) k h = record { still = λ is. refl; calm = λ is p on. on }
+answered_none (Ok a) k h = record { still = h a; calm = λ is p on. on }
 
 looks_both : {A : Type 0} (x : Result A Errno) (reply : A → Reply) → Both (looks x reply) Nothing
 looks_both x reply = answered_none x _ (λ a is. refl)
@@ -85,8 +86,8 @@ plain_both w t (FileChmod p mode) = answered_both _ _ _ (λ n. done_both _ _ ref
 plain_both w t (FileChown p owner group) = answered_both _ _ _ (λ n. done_both _ _ refl)
 plain_both w t (FileCheckAccess p) = looks_both _ _
 plain_both w t (FileGetTranslator p) = looks_both _ _
-plain_both w t (FileGetTranslatorCntl p) = answered_none _ _ (λ s. (answered_none _ _ (λ x is. absurd (true≢false (sym is)))).0)
-plain_both w t (FileGetcontrol p) = answered_none _ _ (λ s. (answered_none _ _ (λ x is. absurd (true≢false (sym is)))).0)
+plain_both w t (FileGetTranslatorCntl p) = answered_none _ _ (λ s. (answered_none _ _ (λ x is. absurd (true≢false (sym is)))).still)
+plain_both w t (FileGetcontrol p) = answered_none _ _ (λ s. (answered_none _ _ (λ x is. absurd (true≢false (sym is)))).still)
 plain_both w t StartFailed = answered_none _ _ (λ s is. absurd (true≢false (sym is)))
 plain_both w t (FsysGetroot c dir flags) = answered_both _ _ _ (λ l. done_both _ _ refl)
 plain_both w t (FsysGoaway c flags) = answered_both _ _ _ (λ s. done_both _ _ refl)
@@ -101,8 +102,8 @@ plain_both w t (DirMkfile p flags mode) = answered_both _ _ _ (λ a. answered_bo
 plain_both w t (DirRename p name q new) = answered_both _ _ _ (λ r. done_both _ _ refl)
 
 still : (w : World) (t : ℕ) (c : Call) → is_startup c ≡ false → Still (plan_of w t c)
-still w t (Plain c) other = (plain_both w t c).0
-still w t (FileSetTranslator p f words box) other = (answered_both _ _ _ (λ n. half_both w t f words box n (sets_nothing f))).0
+still w t (Plain c) other = (plain_both w t c).still
+still w t (FileSetTranslator p f words box) other = (answered_both _ _ _ (λ n. half_both w t f words box n (sets_nothing f))).still
 still w t (FsysStartup m) other = absurd (true≢false other)
 
 -- fsys_startup touches nothing either if it is refused
@@ -119,8 +120,8 @@ startup_calm w t m = go (pending_asks w t) refl
         by s is (Ok a) asks = rw (is, asks) (λ refused p on. absurd (true≢false (sym refused)))
 
 calm : (w : World) (t : ℕ) (c : Call) → Calm (plan_of w t c) (touches w t c)
-calm w t (Plain c) = (plain_both w t c).1
-calm w t (FileSetTranslator p f words box) = (answered_both _ _ _ (λ n. half_both w t f words box n (sets_nothing f))).1
+calm w t (Plain c) = (plain_both w t c).calm
+calm w t (FileSetTranslator p f words box) = (answered_both _ _ _ (λ n. half_both w t f words box n (sets_nothing f))).calm
 calm w t (FsysStartup m) = startup_calm w t m
 
 -- the box that comes back makes no other refusal of it
