@@ -1,6 +1,7 @@
 //! Two views.
-ghost use Rattle.std.specs.Prelude.{◌≡◌, ◌↔◌, Some, IfOk, IsTrue, map, option_copied, slice_get};
+ghost use Rattle.std.specs.Prelude.{◌≡◌, ◌↔◌, ◌∷◌, [], Some, IfOk, IsTrue, map, option_copied, slice_get};
 ghost use Rattle.hurd_creds.specs.declared.name.Name.{Name};
+ghost use Rattle.hurd_nodes.specs.Shown.{boot_name};
 ghost use Rattle.hurd_sight.specs.Reach.{among};
 ghost use Rattle.hurd_views.specs.Views.{or_no_row};
 ghost use Rattle.hurd_views.specs.declared.rows.Row.{Row};
@@ -51,6 +52,21 @@ fn meet_rows(some: &Rows, others: &Rows, pairs: &mut Pairs) -> Result<bool, Allo
     Ok(true)
 }
 
+/// The same of views that count as many tasks, by pairs of which the boot root is the only one. Fails only if memory runs out.
+fn alike(one: &View, two: &View, tasks: &[TaskId], pairs: &mut Pairs) -> Result<bool, AllocError>
+    requires count { one.now.count ≡ two.now.count }
+    requires start { pairs.old ≡ (boot_name, boot_name) ∷ [] }
+    ensures { IfOk result (λ alike. IsTrue alike ↔ AreAlike (among tasks.now) one.now two.now) }
+{
+    if !meet_all(one.seats.as_slice(), two.seats.as_slice(), pairs)? {
+        return Ok(false);
+    }
+    if !meet_rows(&one.rows, &two.rows, pairs)? {
+        return Ok(false);
+    }
+    Ok(pairs.keep_own(tasks))
+}
+
 /// Whether the views of some tasks of two worlds are the same except for names of what others made. Fails only if memory runs out.
 pub fn look_alike(
     alloc: Global,
@@ -64,11 +80,5 @@ pub fn look_alike(
         return Ok(false);
     }
     let mut pairs = Pairs::new(alloc)?;
-    if !meet_all(one.seats.as_slice(), two.seats.as_slice(), &mut pairs)? {
-        return Ok(false);
-    }
-    if !meet_rows(&one.rows, &two.rows, &mut pairs)? {
-        return Ok(false);
-    }
-    Ok(pairs.keep_own(tasks))
+    alike(one, two, tasks, &mut pairs)
 }
