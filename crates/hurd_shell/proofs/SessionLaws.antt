@@ -30,7 +30,7 @@ use Rattle.hurd_shell.specs.declared.transcript.Turn.TheVariants.{Told, Waits}
 use Rattle.hurd_shell.specs.Programs.{Pause, Prog, gives, calls, asks, bind, on_ok, go}
 use Rattle.hurd_shell.specs.Progress.{DoesAll, LeadsTo, Reaches, stopped}
 use Rattle.hurd_shell.specs.Stages.{answer_with, progress_on, stage_behind, waiting_on}
-use Rattle.hurd_shell.specs.Session.{Answers, HangsTogether, Takes, Tells, command_on, is_failed, left_of, waits_by}
+use Rattle.hurd_shell.specs.Session.{Answers, HangsTogether, Takes, Tells, View, command_on, is_failed, left_in, left_of, waits_by}
 use Rattle.hurd_shell.specs.Transcript.{Dialogue, ends, tells, dialogue, part_by, answer_to, played, AsksFor}
 use Rattle.hurd_shell.specs.Turns.{Stands, turn_of, turn_on}
 use Rattle.hurd_shell.proofs.ProgramLaws.{go-asks, go-gives, tried_leads}
@@ -244,3 +244,8 @@ pub left_on : (phase : Phase) (cs : List CommandLine) (k : ℕ) (w : World) → 
 left_on phase [] k w less e = absurd (omega (arith, less))
 left_on phase (c ∷ cs) zero w less e = never_ends c.task (command_on phase c) w (λ r x. tells (part_by c (answer_to c r) x) (dialogue cs x)) (λ r x told. absurd (cc (told))) e
 left_on phase (c ∷ cs) (suc k) w less e = left_on phase cs k w (omega (arith, less)) e
+
+-- a session that has a command left has something left to tell
+pub not_done : {S : Type 0} (f : S → Meaning) (v now : View S) → v ≡ now → v.given < length v.commands → left_in f now ≡ ends → ⊥
+not_done {S} f v now is less at_end =
+    left_on v.phase v.commands v.given (world_of f v.world) less (subst (λ (s : View S). left_in f s ≡ ends) (sym is) at_end)
