@@ -1,9 +1,9 @@
 -- A list of calls with one more, and the servers that these bring.
-use Rattle.std.proofs.Common.{◌≡◌, ℕ, List, [], ◌∷◌, ◌++◌}
+use Rattle.std.proofs.Common.{◌≡◌, ℕ, List, [], ◌∷◌, ◌++◌, sym}
 use Rattle.std.specs.Prelude.{Option, Some, None}
 use Rattle.std.specs.Option.{IfSome, option_map}
 use Rattle.hurd_creds.specs.declared.name.TaskId.{TaskId}
-use Rattle.hurd_trans_iface.specs.Meaning.{Begins, Meaning}
+use Rattle.hurd_trans_iface.specs.Meaning.{Begins, Meaning, begin}
 use Rattle.hurd_machine.specs.declared.call.Call as call
 use Rattle.hurd_machine.specs.Calls.{BringsBegun, call_by}
 use Rattle.hurd_lists.specs.Calls.{begun}
@@ -19,3 +19,8 @@ pub brings : {S : Type 0} (f : S → Meaning) (words : Option (List (List ℕ)))
 brings f words None is = tt
 brings f None (Some s) is = absurd (let none : None ≡ Some (f s) = is in cc)
 brings f (Some ws) (Some s) is = (ws, is)
+
+-- the same of words that there are
+pub made : {S : Type 0} (f : S → Meaning) (words : List (List ℕ)) (server : Option S) → option_map f server ≡ begin words → IfSome server (λ s. Begins (f s))
+made f words None is = tt
+made f words (Some s) is = (words, sym is)

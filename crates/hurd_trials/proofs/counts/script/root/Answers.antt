@@ -1,0 +1,5 @@
+use Rattle.hurd_tmpfs.proofs.Beginning.{begins_tree}
+use Rattle.hurd_trials.proofs.counts.script.root.Goals as goal
+
+pub returns-in_ok-empty_tree-in-Tree : goal.returns-in_ok-empty_tree-in-Tree
+returns-in_ok-empty_tree-in-Tree c = begins_tree _ c.in_ok-empty_tree-in-Tree.ensures
