@@ -27,7 +27,7 @@ name_in has name = more_in (EINVAL ∷ ENAMETOOLONG ∷ []) has (given_in _ _ _ 
 abbrev dir_errors : List Errno
 dir_errors = ENOTDIR ∷ EROFS ∷ EACCES ∷ ENOENT ∷ []
 
--- Entries are made and taken away in a directory of a tree that stands, by ids that may change it.
+-- Entries are made and taken away in a directory that is there, by ids that may change it.
 dir_in : {es : List Errno} → are_among dir_errors es ≡ true → (w : World) (a : Named) → In es (dir_asks w a)
 dir_in has w a = more_in dir_errors has (
     first_in _ _ (given_in _ _ _ refl (λ dir. given_in _ _ _ refl (λ tree. ok_in))) (λ u eu.
@@ -105,13 +105,13 @@ leaves_in w name a b =
     given_in _ _ _ refl (λ stands. on_in _ _ _ refl (λ n en. on_in _ _ _ refl (λ k ek.
     given_in _ _ _ refl (λ kin. given_in _ _ _ refl (λ may. given_in _ _ _ refl (λ outside. ok_in))))))
 
--- What stands there gives way.
+-- What is there gives way.
 way_in : (w : World) (b : Named) (k : Header) (m : Name) → In rename_errors (gives_way w b k m)
 way_in w b k m =
     on_in _ _ _ refl (λ j ej. given_in _ _ _ refl (λ kin. given_in _ _ _ refl (λ may. given_in _ _ _ refl (λ dir.
     given_in _ _ _ refl (λ file. given_in _ _ _ refl (λ free. given_in _ _ _ refl (λ empty. ok_in)))))))
 
--- Nothing stands there, or the node itself, or what gives way.
+-- Nothing is there, or the node itself, or what gives way.
 old_in : (w : World) (b : Named) (l : Name × Header) (o : Option Name) → In rename_errors (old_asks w b l o)
 old_in w b l None = ok_in
 old_in w b l (Some m) = if_in (same_name l.0 m) _ _ (λ itself. ok_in) (λ other. way_in w b l.1 m)

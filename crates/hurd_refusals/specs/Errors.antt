@@ -1,4 +1,4 @@
--- By which errors each call may be refused. ENOMEM is none of them: the written machine knows no want of memory.
+-- By which errors each call may be refused. ENOMEM is none of them: the written machine never runs out of memory.
 use Rattle.std.specs.Prelude.{◌≡◌, ◌||◌, ◌==◌, ℕ, Bool, true, false, List, [], ◌∷◌, Option, Some, None}
 use Rattle.hurd_creds.specs.Errors.{number_of}
 use Rattle.hurd_creds.specs.declared.errno.Errno.{Errno}

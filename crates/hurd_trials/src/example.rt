@@ -1,7 +1,7 @@
 //! A first program over the tree: root writes a notice and puts a server on a second file, and alice reads both.
 //!
 //! To make a program of your own of it, copy this file and `example/tree.rt` into the `src` of a crate. In `crates.txt`
-//! that crate stands on hurd_creds, hurd_trans_iface, hurd_small, hurd_tmpfs, hurd_kinds, hurd_machine, hurd_world and
+//! that crate needs hurd_creds, hurd_trans_iface, hurd_small, hurd_tmpfs, hurd_kinds, hurd_machine, hurd_world and
 //! bitflags. Beside the two write a `main.rt`:
 //!
 //! ```

@@ -77,7 +77,7 @@ fn all_ready(
     Ok(ready)
 }
 
-/// Prints a call and its reply. `Write`, `Memory`, also where the reply is want of memory.
+/// Prints a call and its reply. `Write`, `Memory`, also if the call found no memory.
 fn tell<S: Server, W: Write>(
     alloc: Global,
     line: &Bytes,

@@ -15,7 +15,7 @@ pub struct Counts {
     dropped: Rc<Cell<u32>>,
 }
 
-/// A count that stands at none.
+/// A count of none.
 fn none(alloc: Global) -> Result<Rc<Cell<u32>>, Errno>
     ensures { IfErr result (λ e. e ≡ ENOMEM) }
 {
