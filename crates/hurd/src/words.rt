@@ -227,7 +227,7 @@ pub fn trouble(rt: &HostRuntime, line: &[u8]) -> u8 {
     TROUBLE
 }
 
-/// Prints what clap says in the place of an answer: help, the version, or what is wrong with words that are printed as they are. Answers the exit status.
+/// Prints what clap says in place of an answer: help, the version, or what is wrong with words that are printed as they are. Answers the exit status.
 fn tell(rt: &HostRuntime, error: &Error) -> u8 {
     if matches!(error.kind(), ErrorKind::OutOfMemory) {
         return trouble(rt, b"hurd: out of memory\n");

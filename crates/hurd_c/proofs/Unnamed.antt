@@ -8,7 +8,7 @@ use Rattle.hurd_c.specs.Ends.{over, said_of}
 use Rattle.hurd_c.specs.Texts.{CopiesOf, IsUnnamed, OfSome, sort_at}
 use Rattle.hurd_c.specs.declared.said.Said.{Said}
 
--- no bytes in the place of others leave these
+-- no bytes in place of others leave these
 over_none : (old : List ℕ) → old ≡ over [] old
 over_none [] = refl
 over_none (byte ∷ bytes) = refl

@@ -30,7 +30,7 @@ abbrev pub told_of : Option Sitting → List ℕ
 told_of None = []
 told_of (Some sitting) = told_in sitting
 
--- bytes in the place of as many others, as far as these go
+-- bytes in place of as many others, as far as these go
 abbrev pub over : List ℕ → List ℕ → List ℕ
 over bytes others = take (length others) bytes ++ drop (length bytes) others
 

@@ -50,7 +50,7 @@ fn made(alloc: Global, sitting: &mut Sitting, calls: &[u8]) -> Said
     ending(ended, sitting.told().len())
 }
 
-/// Makes the calls of a text one after another. Keeps what they tell, and what those learn who are watched, in the place of what was told before, and copies
+/// Makes the calls of a text one after another. Keeps what they tell, and what those learn who are watched, in place of what was told before, and copies
 /// of that what there is room for.
 #[unsafe(no_mangle)]
 pub extern "C" fn hurd_make(alloc: Global, world: &mut Handle, calls: &[u8], out: &mut [u8]) -> Said

@@ -4,7 +4,7 @@
 //! what they learn is told too. `hurd_told` gives what the last text told, and `hurd_end` lets the world go.
 //!
 //! `hurd_run`, `hurd_learn`, `hurd_see` and `hurd_draw` take a whole text, a script or a list, in a world of its own, and tell what the program `hurd` prints.
-//! What a program in C is to keep stands in `examples/c/hurd.h`: the proofs take it as kept.
+//! What a program in C is to keep is in `examples/c/hurd.h`: the proofs take it as kept.
 #![tactic(auto)]
 
 mod exports;

@@ -19,7 +19,7 @@ use Rattle.hurd_words.specs.declared.answers.Answer.{Answer}
 use Rattle.hurd_calls.specs.Making.{after_call, answer_to}
 use Rattle.hurd_lists.specs.Calls.{begun}
 
--- want of memory, whatever boxes mean
+-- ENOMEM, whatever boxes mean
 lacks_by : {S : Type 0} (f : S → Meaning) (r : reply.Reply S) → lacks_memory (reply_by f r) ≡ lacks_memory r
 lacks_by f Done = refl
 lacks_by f _ = refl

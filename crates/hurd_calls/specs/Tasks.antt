@@ -11,7 +11,7 @@ below count n = if nat_lt n count then Some n else None
 abbrev pub task_of : ℕ → List ℕ → Option ℕ
 task_of count word = option_and_then (below count) (number_of word)
 
--- what stands in front of the numbers of tasks
+-- what is in front of the numbers of tasks
 abbrev pub noun_of : List TaskId → List ℕ
 noun_of tasks = if nat_lt 1 (length tasks) then codes "tasks " else codes "task "
 

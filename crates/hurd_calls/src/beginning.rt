@@ -65,7 +65,7 @@ fn blamed(alloc: Global, text: &[u8], fault: ListFault) -> Result<Vec<u8>, Alloc
     }
 }
 
-/// What is said after the name of a file whose list is bad: the line, why, and what stands there; of a good one nothing. Fails only if memory runs out.
+/// What is said after the name of a file whose list is bad: the line, why, and what is there; of a good one nothing. Fails only if memory runs out.
 pub fn complaint_of(alloc: Global, text: &[u8]) -> Result<Vec<u8>, AllocError>
     ensures { IfOk result (λ said. said.items ≡ lists.complaint text.now) }
 {

@@ -28,7 +28,7 @@ pub struct RunningCalls {
     ghost room: { tasks < 18446744073709551615 },
 }
 
-/// What stands in front of the numbers of tasks.
+/// What is in front of the numbers of tasks.
 fn noun(tasks: &[TaskId]) -> &'static [u8]
     ensures { result.now ≡ noun_of tasks.now }
 {

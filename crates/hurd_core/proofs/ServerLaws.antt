@@ -35,7 +35,7 @@ module _ (N : NodeState) (H : PortState) (t : ℕ) where
   settled_last (Some q) c false M K is = ap settle is
 
   module _ (p : ServerToMake) (ids : IdSets) (targets : List Name) (m : Meaning) where
-    -- the nodes with the server that stands at a place
+    -- the nodes with the server that is at a place
     abbrev pub seated : Place → NodeState
     seated at = attached at.name at.seat (begun_info m at.root ids targets) (begun_root m at.owner at.group at.mode) (without_old p.instead N)
 

@@ -409,7 +409,7 @@ impl<S: Server> Core<S> {
         Ok(())
     }
 
-    /// Takes an entry out of a directory and puts it last into another one, or the same, under a new name: in the place of
+    /// Takes an entry out of a directory and puts it last into another one, or the same, under a new name: in place of
     /// the entry of that name, where there is one. What nothing keeps any more goes.
     ///
     /// Errors, in order: `EDIED` no such directory, `ENOTDIR`, `EROFS` its server keeps no tree, `EXDEV` the two are of

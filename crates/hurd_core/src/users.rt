@@ -120,7 +120,7 @@ impl NodeUse {
     }
 }
 
-/// Counts the users of a node as they are now, in the place of those that were. There is room for one server more.
+/// Counts the users of a node as they are now, in place of those that were. There is room for one server more.
 pub(crate) fn rehouse(users: &mut Users, before: NodeUse, now: NodeUse)
     requires room { 0 < spare users.old }
     requires counted { (s : Name) → if_so (is_one s before.server) before.uses ≤ counted users.old.entries s }

@@ -40,7 +40,7 @@ no_more : (a : ℕ) → a ≡ a + 0
 no_more a = omega arith
 
 module _ (m l : List (Name × ℕ)) (n : Name) where
-  -- what is written under the name stands there
+  -- what is written under the name is there
   pub count-written : (v : Option ℕ) → ((q : Name) → lookup (same_name q) l ≡ cond (same_name n q) v (lookup (same_name q) m)) → lookup (same_name n) l ≡ v
   count-written v w = w n ∙ ap (λ (b : Bool). cond b v (lookup (same_name n) m)) (same_name-itself n)
 

@@ -113,7 +113,7 @@ module _ {X V : Type 0} (key : X → Name) (value : X → V) where
         rw (e, find-set n xs j x at is q) (swapped (eq_by_cmp name_cmp q (key t)) (eq_by_cmp name_cmp q n) (Some (value t)) (Some (value x)) (fin.find name_cmp q (map entry_of xs)) (λ a b. let k = ties_both q n (key t) b a in cc))
   ]
 
-  -- a thing in the place of the first of its name
+  -- a thing in place of the first of its name
   pub keyed-set : (n : Name) (xs : List X) (i : ℕ) (x : X) → place_by key n xs ≡ Some i → key x ≡ n → keyed key value (slice_set xs i x) ≡ fin.insert (keyed key value xs) n (value x)
   keyed-set n xs i x h is = same_map_by _ _ (λ q.
       get-keyed (slice_set xs i x) q ∙ find-set n xs i x h is q

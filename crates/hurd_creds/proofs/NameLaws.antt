@@ -69,7 +69,7 @@ same_or_apart a b = go (same_name a b) refl
     go true e = inl (equal_if_same a b e)
     go false e = inr (apart_if_not_same a b e)
 
--- which of two names stands first doesn't matter
+-- which of two names comes first doesn't matter
 pub name_turned : (a b : Name) → same_name a b ≡ same_name b a
 name_turned a b = elim (same_or_apart a b) [
   | inl e ↦ rw e refl
@@ -113,17 +113,17 @@ module _ {X : Type 0} (m : NameMap X) (n : Name) where
   unfolding edit
   edit_apart f q apart = put_apart (option_map f (get m n)) q apart
 
-  -- to edit what stands there is to put the changed value in its place
+  -- to edit what is there is to put the changed value in its place
   pub edit_found : (f : X → X) (x : X) → get m n ≡ Some x → edit n f m ≡ insert m n (f x)
   unfolding edit
   edit_found f x is = ap (λ (o : Option X). put_back n m (option_map f o)) is
 
-  -- an edit where nothing stands changes nothing
+  -- an edit where nothing is there changes nothing
   pub edit_absent : (f : X → X) → get m n ≡ None → edit n f m ≡ m
   unfolding edit
   edit_absent f is = ap (λ (o : Option X). put_back n m (option_map f o)) is
 
-  -- what stands there already
+  -- what is there already
   pub insert_same : (x : X) → get m n ≡ Some x → insert m n x ≡ m
   insert_same x is = same_map_by (insert m n x) m (λ q. go q (same_or_apart q n))
     where

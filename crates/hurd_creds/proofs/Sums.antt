@@ -97,13 +97,13 @@ module _ {X : Type 0} (f : X → ℕ) where
             omega arith
       ] refl
 
-  -- with a thing put in, in the place of what was there
+  -- with a thing put in, in place of what was there
   pub total_insert : (m : NameMap X) (k : Name) (v : X) → total (insert m k v) + of_found (get m k) ≡ total m + f v
   total_insert m k v =
       ap₂ (λ (es : List (Name × X)) (o : Option X). of_list es + of_found o) (entries-insert name_total m k v) (get-entries m k)
       ∙ put_sum k v (entries m) (entries_sorted m)
 
-  -- with what stands there changed
+  -- with what is there changed
   pub total_edit : (m : NameMap X) (k : Name) (g : X → X) (x : X) → get m k ≡ Some x → total (edit k g m) + f x ≡ total m + f (g x)
   total_edit m k g x is =
       ap₂ (λ (n : NameMap X) (o : Option X). total n + of_found o) (edit_found m k g x is) (sym is) ∙ total_insert m k (g x)
@@ -115,7 +115,7 @@ module _ {X : Type 0} (f : X → ℕ) where
       go None is = ap total (edit_absent m k g is)
       go (Some x) is = let e = total_edit m k g x is in let s = same x is in omega arith
 
-  -- without what stands there
+  -- without what is there
   pub total_remove : (m : NameMap X) (k : Name) → total (remove m k) + of_found (get m k) ≡ total m
   total_remove m k = go (get m k) refl
     where
@@ -135,7 +135,7 @@ module _ {X : Type 0} (f : X → ℕ) where
           let none = ap of_found (remove_here m k) in
           omega arith
 
-  -- what stands in a list is found there under its name
+  -- what is in a list is found there under its name
   among_found : (d : Name × X) (es : List (Name × X)) → T (is_sorted name_cmp es) → IsAmong d es → find name_cmp d.0 es ≡ Some d.1
   among_found d [] h i = absurd i
   among_found d (e ∷ es) h (inl same) = subst (λ z. find name_cmp z.0 (e ∷ es) ≡ Some z.1) same (ap (λ b. cond b (Some e.1) (find name_cmp e.0 es)) (tied-itself e.0))

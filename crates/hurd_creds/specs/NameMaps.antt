@@ -14,7 +14,7 @@ abbrev pub put_back : {X : Type 0} → Name → NameMap X → Option X → NameM
 put_back n m None = m
 put_back n m (Some x) = fin.insert m n x
 
--- the map with what stands at a name changed; where nothing stands there, the map as it is
+-- the map with what is at a name changed; where nothing is there, the map as it is
 unfoldable pub edit : {X : Type 0} → Name → (X → X) → NameMap X → NameMap X
 edit n f m = put_back n m (option_map f (fin.get m n))
 

@@ -36,7 +36,7 @@ pub enum Errno {
 }
 
 impl Errno {
-    /// Whether it is want of memory.
+    /// Whether it is ENOMEM.
     pub fn is_no_memory(self) -> bool
         ensures { result ≡ is_no_memory self }
     {
@@ -110,7 +110,7 @@ impl Errno {
     }
 }
 
-/// Want of memory is `ENOMEM`.
+/// When memory runs out, `ENOMEM`.
 impl From<AllocError> for Errno {
     ghost use Rattle.hurd_creds.specs.declared.errno.Errno.TheVariants.{ENOMEM};
 

@@ -4,7 +4,7 @@
 //! `Ids::may` whether these ids may read, write or search a node of these attributes. `Mode` and
 //! `OpenFlags` are sets of bits. The other crates stand on this one: it also has the names of nodes,
 //! servers and opens, how often names are counted, the errors, numbers in words (decimal or octal digits, without a sign), and the words in which contracts
-//! speak of want of memory.
+//! speak of ENOMEM.
 //!
 //! It isn't a table of users: a task's ids are whatever its maker gave it.
 #![tactic(auto)]

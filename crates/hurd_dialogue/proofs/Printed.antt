@@ -77,7 +77,7 @@ not_begun_adds p sort before text (Boot e) bad boot not =
     adds_nothing p before text (Err (Boot e)) (ap (λ (f : List ℕ → Option ℕ). f text) bad ∙ not.0, ap (λ (f : List ℕ → Result (Unit {0}) Errno). f text) boot ∙ not.1, refl)
 not_begun_adds p sort before text Memory bad boot not = no_memory p before text
 
--- by want of memory, or a fault that says why it was not begun, and none of reading or writing
+-- for lack of memory, or a fault that says why it was not begun, and none of reading or writing
 
 pub not_begun_reads : (sort : Sort) (text : List ℕ) (r : Result (Unit {0}) Fault) (fault : Fault) → r ≡ Err fault → NotBegun sort text fault → r ≢ Err Read
 not_begun_reads sort text r Read is not same = not

@@ -83,7 +83,7 @@ pub trait Telling: Drop {
     fn thing() -> &'static [u8]
         ensures { result.now ≡ sort.thing };
 
-    /// What is said after the name of a file whose text is bad: the line, why, and what stands there; of a good text nothing. Fails only if memory runs out.
+    /// What is said after the name of a file whose text is bad: the line, why, and what is there; of a good text nothing. Fails only if memory runs out.
     fn complaint(alloc: Global, text: &[u8]) -> Result<Vec<u8>, AllocError>
         ensures { IfOk result (λ said. said.items ≡ sort.complaint text.now) };
 

@@ -203,7 +203,7 @@ module _ (w : World) (t p q : ℕ) (name new : List ℕ) (a b : Named) (l : Name
     leads : LeadsUp (nodes_of w) e
     leads = leads_unless w linked e b.header f.named.other.is_header f.leaving.here
 
-    -- where nothing stands under the new name
+    -- where nothing is under the new name
     goes : entry_of new (body_at w e) ≡ None → MayGo w d name n e new
     goes absent = let z = target in may_go w d name n e new k z.0 f.leaving.entry f.leaving.is_header z.1 f.trees.kin absent leads (λ dir. inside_around w n e (not_inside dir) leads)
 

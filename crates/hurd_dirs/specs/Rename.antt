@@ -58,7 +58,7 @@ leaves_asks w name a b =
     given EACCES (may_take a.right.ids a.header k) (
     given EINVAL (not (is_dir k.kind && is_inside w n b.right.node)) (Ok (n, k)))))))
 
--- what stands under the new name may give way to a node with the header k: no directory to none, an empty directory on which no
+-- what is under the new name may give way to a node with the header k: no directory to none, an empty directory on which no
 -- server is active to one
 abbrev pub gives_way : World → Named → Header → Name → Result (Unit {0}) Errno
 gives_way w b k m =
@@ -70,7 +70,7 @@ gives_way w b k m =
     given EBUSY (not (is_dir j.kind && is_some (active_at w m))) (
     given ENOTEMPTY (not (is_dir j.kind) || is_empty_at (body_at w m)) (Ok tt)))))))
 
--- nothing need give way to the node n where nothing stands there, or n itself does
+-- nothing need give way to the node n where nothing is there, or n itself does
 abbrev pub old_asks : World → Named → Name × Header → Option Name → Result (Unit {0}) Errno
 old_asks w b l None = Ok tt
 old_asks w b l (Some m) = if same_name l.0 m then Ok tt else gives_way w b l.1 m
@@ -95,11 +95,11 @@ rename_asks w t p name q new =
     first (old_asks w a.1 l old) (λ o.
     Ok (record { from = a.0.right.node; to = a.1.right.node; node = l.0; old = old })))))))
 
--- what stands under the new name is unlinked, the old entry goes, a directory gets its new parent, and the new entry comes last
+-- what is under the new name is unlinked, the old entry goes, a directory gets its new parent, and the new entry comes last
 abbrev pub moves : List ℕ → List ℕ → Renaming → Option Name → List Change
 moves name new r old = settled_edits (move_edits r.from name r.to new r.node old)
 
--- where the node itself stands there, nothing changes
+-- where the node itself is there, nothing changes
 abbrev pub renames : List ℕ → List ℕ → Renaming → Option Name → List Change
 renames name new r old = if is_one r.node old then [] else moves name new r old
 

@@ -14,7 +14,7 @@ use hurd_creds::{Attrs, Errno, NodeName, TaskId, is_one};
 use hurd_trans_iface::{Server, is_dir};
 use std::alloc::Global;
 
-/// What goes where: a node, from which directory to which, and what stands there under its new name.
+/// What goes where: a node, from which directory to which, and what is there under its new name.
 #[derive(Clone, Copy, Debug)]
 struct Renaming {
     from: NodeName,
@@ -106,7 +106,7 @@ fn leaves_asked<S: Server>(
     Ok((node, attrs))
 }
 
-/// Whether what stands under the new name gives way to a node of these attributes.
+/// Whether what is under the new name gives way to a node of these attributes.
 ///
 /// Errors, in order: `EDIED` no such node of the directory's server, `EACCES` in a sticky directory the ids hold neither its
 /// owner nor the entry's, `ENOTDIR` a directory over none, `EISDIR` none over a directory, `EBUSY` a server is active on a
@@ -199,7 +199,7 @@ fn rename_asked<S: Server>(
 }
 
 /// Takes the first entry of a name out of the directory of a port, and puts it last into the directory of another, or the
-/// same, under a new name (`fs.defs`). What stands there under that name gives way to it, as if it were unlinked or removed; a
+/// same, under a new name (`fs.defs`). What is there under that name gives way to it, as if it were unlinked or removed; a
 /// directory gets its new parent. Where the new name names the same node, nothing changes. A name has at most 255 bytes.
 ///
 /// Errors, in order: `ESRCH` no such task, `EBADF` no such port, `EBADF` no such other port, `EDIED` no such node of the
@@ -207,7 +207,7 @@ fn rename_asked<S: Server>(
 /// `ENOTDIR` one of the two, `EROFS` the server of one keeps no tree, `EXDEV` they are of different servers, `EACCES` the ids of a
 /// port may not search its directory, or may not write it, `ENOENT` the second directory is removed, or there is no such entry,
 /// `EDIED` no such node of the directory's server, `EACCES` in a sticky directory the ids hold neither its owner nor the
-/// entry's, `EINVAL` a directory into itself, or below; and of another node that stands under the new name: `EDIED` no such node
+/// entry's, `EINVAL` a directory into itself, or below; and of another node that is under the new name: `EDIED` no such node
 /// of the directory's server, `EACCES` in a sticky directory the ids hold neither its owner nor the entry's, `ENOTDIR` a directory
 /// over none, `EISDIR` none over a directory, `EBUSY` a server is active on that directory, `ENOTEMPTY`; `ENOMEM`.
 #[tactic(auto, unfolding(hurd_machine::specs::Plan::answered))]

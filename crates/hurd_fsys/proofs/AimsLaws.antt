@@ -1,4 +1,4 @@
--- The targets of a server are found alike in worlds that agree, where S has the ids of who starts it; S sees them, and no refusal is want of memory.
+-- The targets of a server are found alike in worlds that agree, where S has the ids of who starts it; S sees them, and no refusal is ENOMEM.
 use Rattle.std.proofs.Common.{◌≡◌, ℕ, ◌&&◌, Bool, true, false, List, [], ◌∷◌, Option, Some, refl, sym, ◌∙◌, ap, ap₂, inl, inr}
 use Rattle.std.proofs.lemmas.Bool.{and_parts}
 use Rattle.std.specs.Prelude.{Ok, length}

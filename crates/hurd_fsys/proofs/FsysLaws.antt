@@ -61,7 +61,7 @@ module _ (t c : ℕ) (flags : GoawayFlags) where
 
 -- a port to control a server that was asked for
 
--- of what is asked: the server is there, who asked may command it, worlds that agree answer the same, and it isn't refused for want of memory
+-- of what is asked: the server is there, who asked may command it, worlds that agree answer the same, and it isn't refused for lack of memory
 pub record AskedServer (t : ℕ) (asks : World → Result Name Errno) : Type 0 where
   pub there : (w : World) → Coherent w → (s : Name) → asks w ≡ Ok s → (i : ServerInfo) × (server_at w s ≡ Some i)
   pub commanded : (S : ℕ → Bool) (v : World) → Coherent v → S t ≡ true → (s : Name) → asks v ≡ Ok s → Commands S v s

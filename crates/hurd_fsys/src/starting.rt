@@ -38,7 +38,7 @@ pub fn start_failed<S: Server>(core: &mut Core<S>, task: TaskId) -> Result<(), E
 
 /// Starts the translator that the task is to start, with this server, which becomes active on the node. It runs with the uid of
 /// the node's owner; its root is like the node. The task is then to start nothing any more; nor is it where this is refused, except for
-/// want of memory.
+/// ENOMEM.
 ///
 /// Errors, in order, with the box back: `ESRCH` no such task, or it is to start nothing, `EDIED` the node is gone, `EBUSY` a server is
 /// active on it, or its words are others than those that the lookup found; of each target in order `EBUSY` a translator waits there that is to be started first, or those of its lookup, with the uid of the node's owner where the task

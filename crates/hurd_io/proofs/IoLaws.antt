@@ -48,7 +48,7 @@ pub record IoLaws {T : Type 0} (t : ℕ) (asks : World → Result IoAt Errno) (q
   -- what is asked first, and what the server answers, is the same in worlds that agree for a set with the task
   pub asks_same : (S : ℕ → Bool) (v w : World) → Agree S v w → S t ≡ true → asks w ≡ asks v
   pub told_same : (S : ℕ → Bool) (v w : World) → Coherent v → Agree S v w → S t ≡ true → (a : IoAt) → asks v ≡ Ok a → asked_at (q w a) a.node w ≡ asked_at (q v a) a.node v
-  -- no refusal is want of memory
+  -- no refusal is ENOMEM
   pub asks_plain : (w : World) → IsPlain (asks w)
   pub told_plain : (w : World) (a : IoAt) (k : ServerKind) → IsPlainAnswer (behaviour_of k) (q w a)
   pub reply_plain : (x : T) → is_refused (reply x) ≡ false

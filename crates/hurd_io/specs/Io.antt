@@ -36,7 +36,7 @@ abbrev pub place_of : Offset → ℕ → ℕ
 place_of (At n) cursor = n
 place_of Cursor cursor = cursor
 
--- where a call on what a port has open begins, if the cursor stands there; `stream`: on a stream
+-- where a call on what a port has open begins, if the cursor is there; `stream`: on a stream
 abbrev pub io_at : Handle → Bool → ℕ → Offset → IoAt
 io_at a stream cursor offset =
     record { node = a.node; open_name = a.open_name; is_stream = stream; offset = offset; at = place_of offset cursor }

@@ -31,7 +31,7 @@ impl Offset {
         }
     }
 
-    /// The place, where the cursor stands at `cursor`.
+    /// The place, where the cursor is at `cursor`.
     fn place(self, cursor: u64) -> u64
         ensures { result ≡ place_of self cursor }
     {
@@ -60,7 +60,7 @@ pub(crate) struct IoAt {
 }
 
 impl IoAt {
-    /// Where a call on what a port has open begins, if the cursor stands at `cursor`.
+    /// Where a call on what a port has open begins, if the cursor is at `cursor`.
     pub(crate) fn new(handle: Handle, is_stream: bool, cursor: u64, offset: Offset) -> IoAt
         ensures { result ≡ io_at handle is_stream cursor offset }
     {

@@ -1,4 +1,4 @@
--- What stands in a world with other names stands in the world itself.
+-- What is in a world with other names is in the world itself.
 use Rattle.std.proofs.Common.{◌≡◌, inl, inr, ℕ, true, List, [], ◌∷◌, Option, Some, None, map, refl, sym, ap, subst, ◌∙◌}
 use Rattle.std.specs.Prelude.{option_and_then}
 use Rattle.std.specs.Option.{option_map}
@@ -23,7 +23,7 @@ module _ {A B : Type 0} (g : A → B) where
   of_among (x ∷ xs) P holds y (inr at) = of_among xs P (λ z in_rest. holds z (inr in_rest)) y at
 
 module _ (f : OtherNames) where
-  -- what holds of all that stands in a map holds of what stands there with other names
+  -- what holds of all that is in a map holds of what is there with other names
   module _ {X Y : Type 0} (g : X → Y) where
     pub of_found : (m : NameMap X) (P : Name → Y → Type 0) → ((n : Name) (x : X) → get m n ≡ Some x → P (f.to n) (g x)) → (q : Name) (y : Y) → get (map_renamed f.to g m) q ≡ Some y → P q y
     of_found m P holds q y is =

@@ -29,7 +29,7 @@ module _ (f : OtherNames) (w : World) where
   pub of_servers : (P : Name → ServerInfo → Type 0) → ((s : Name) (i : ServerInfo) → server_at w s ≡ Some i → P (f.to s) (info_renamed f.to i)) → (s : Name) (i : ServerInfo) → server_at other s ≡ Some i → P s i
   of_servers = of_found f (info_renamed f.to) w.servers
 
-  -- what stands under a name stands under its other name
+  -- what is under a name is under its other name
 
   pub header_there : (n : Name) {k : Header} → header_at w n ≡ Some k → header_at other (f.to n) ≡ Some (header_renamed f.to k)
   header_there n is = header_at-renamed f w n ∙ ap (option_map (header_renamed f.to)) is

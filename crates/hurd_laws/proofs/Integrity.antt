@@ -48,7 +48,7 @@ stepped S w t c s ours =
     let r = call_laws t c in
     since_all S w true (plan w t c).changes s.coherent (r.laws.piece w s).piece.proper (all_reasoned (r.reasons S w s.coherent ours))
 
--- a body is of a node that stands there
+-- a body is of a node that is there
 node_of_body : (o : Option Node) (b : Body) → body_in o ≡ Some b → (x : Node) × (o ≡ Some x) × (x.body ≡ b)
 node_of_body None b e = absurd (cc)
 node_of_body (Some x) b e = (x, refl, cc)

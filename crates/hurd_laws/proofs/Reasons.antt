@@ -86,7 +86,7 @@ module _ {S : ℕ → Bool} {w : World} {n : Name} where
     parent = λ out. absurd (out takes);
   }
 
--- what stands under a name in a body, and does so in another, by reasons
+-- what is under a name in a body, and does so in another, by reasons
 pub record EntryKept (S : ℕ → Bool) (w : World) (d : Name) (name : List ℕ) (b e : Body) : Type 0 where
   pub stays : (n : Name) → entry_of name (body_at w d) ≡ Some n → (TakesEntry S w d name n → ⊥) → entry_of name (Some b) ≡ Some n → entry_of name (Some e) ≡ Some n
   pub free : entry_of name (body_at w d) ≡ None → (Enters S w d → ⊥) → entry_of name (Some b) ≡ None → entry_of name (Some e) ≡ None

@@ -40,7 +40,7 @@ sent_none x t p q e is = rw is refl
 abbrev Has : World → ℕ → Right → Type 0
 Has x q r = (z : Task) × (task_at x q ≡ Some z) × IsAmong r (rights_of z)
 
--- x is w but for what was sent
+-- x is w except for what was sent
 record Carried (w x : World) : Type 0 where
   same : x ≡ record w { tasks = x.tasks }
   task : (t : ℕ) (y : Task) → task_at w t ≡ Some y → (z : Task) × (task_at x t ≡ Some z) × (z.ports ≡ y.ports)

@@ -36,7 +36,7 @@ lacks_told : (box : Option Meaning) → lacks_memory (refusal box ENOMEM) ≡ tr
 lacks_told None = refl
 lacks_told (Some m) = refl
 
--- a reply that isn't want of memory is the machine's
+-- a reply that isn't ENOMEM is the machine's
 pub called_step : (w x : World) (t : ℕ) (c : Call) (r : Reply) → Called w t c r x → lacks_memory r ≡ false → (r, x) ≡ step w t c
 called_step w x t c r (inl h) found = h
 called_step w x t c r (inr l) found = absurd (true≢false (sym (ap lacks_memory l.told ∙ lacks_told (box_in c)) ∙ found))

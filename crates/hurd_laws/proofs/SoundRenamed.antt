@@ -1,4 +1,4 @@
--- A sound world is sound with other names, if what stands in it was made by those too.
+-- A sound world is sound with other names, if what is in it was made by those too.
 use Rattle.hurd_laws.specs.Untold.{RenamedSound}
 use Rattle.hurd_laws.proofs.HousedRenamed.{housed-renamed, kinds-renamed, seated-renamed}
 use Rattle.hurd_laws.proofs.RestRenamed.{at_rest-renamed, filled-renamed}

@@ -19,7 +19,7 @@ FindsTargets w t (FileSetTranslator p setting words box) = SetLacks w t p settin
 FindsTargets w t (FsysStartup box) = StartLacks w t box
 FindsTargets w t _ = ⊥
 
--- want of memory: of a call that takes some, and needs some as the world stands, and that the machine doesn't refuse, or not before targets are found;
+-- ENOMEM: of a call that takes some, and needs some as the world stands, and that the machine doesn't refuse, or not before targets are found;
 -- nothing is changed, and a box comes back
 pub record Lacks (w : World) (t : ℕ) (c : Call) (reply : Reply) (x : World) : Type 0 where
   pub told : reply ≡ refusal (box_in c) ENOMEM
@@ -28,6 +28,6 @@ pub record Lacks (w : World) (t : ℕ) (c : Call) (reply : Reply) (x : World) : 
   pub wanted : (is_refused (reply_of w t c) ≡ false) ⊎ FindsTargets w t c
   pub same : x ≡ w
 
--- what a call of task t is told, and the world that it leaves: those of the step, or want of memory
+-- what a call of task t is told, and the world that it leaves: those of the step, or ENOMEM
 abbrev pub Called : World → ℕ → Call → Reply → World → Type 0
 Called w t c reply x = ((reply, x) ≡ step w t c) ⊎ Lacks w t c reply x

@@ -190,7 +190,7 @@ pub record ByReason (S : ℕ → Bool) (w : World) (n : Name) (h k : Header) : T
   pub links : (MayLink S w n → ⊥) → k.links ≡ h.links
   pub parent : (Takes S w n → ⊥) → k.parent ≡ h.parent
 
--- of what stands under a name in a directory: a node stays there unless S may take its entry, and where nothing is, nothing comes unless S may enter it
+-- of what is under a name in a directory: a node stays there unless S may take its entry, and where nothing is, nothing comes unless S may enter it
 pub record EntryByReason (S : ℕ → Bool) (w : World) (d : Name) (name : List ℕ) (b : Body) : Type 0 where
   pub stays : (n : Name) → entry_of name (body_at w d) ≡ Some n → (TakesEntry S w d name n → ⊥) → entry_of name (Some b) ≡ Some n
   pub free : entry_of name (body_at w d) ≡ None → (Enters S w d → ⊥) → entry_of name (Some b) ≡ None

@@ -181,7 +181,7 @@ io_identity args = option_map (λ p. call.Plain (plain.IoIdentity p.0 p.1)) (pai
 abbrev pub file_set_size : List (List ℕ) → Option Call
 file_set_size args = option_map (λ p. call.Plain (plain.FileSetSize p.0 p.1)) (pair args)
 
--- where the word `box` stands first
+-- where the word `box` comes first
 abbrev pub box_place : List (List ℕ) → Option ℕ
 box_place words = position (λ w. bytes_eq w (codes "box")) words
 
@@ -304,7 +304,7 @@ abbrev pub started : {S : Type 0} → Option S → machine.Call S
 started (Some s) = call.FsysStartup s
 started None = (call.Plain plain.StartFailed)
 
--- a call with this server in the place of the one that it brings: a start without one is a start that failed
+-- a call with this server in place of the one that it brings: a start without one is a start that failed
 abbrev pub with_server : {S : Type 0} → Option S → machine.Call S → machine.Call S
 with_server s (call.FileSetTranslator port setting words server) = call.FileSetTranslator port setting words s
 with_server s (call.FsysStartup server) = started s

@@ -107,7 +107,7 @@ reading_of list =
 abbrev pub listed_by : {S : Type 0} → (S → Meaning) → ListedCall S → Listed
 listed_by f c = record { task = c.task; call = with_server (begun c.server) (call_by f c.call); line = c.line }
 
--- what stands in a list that was read
+-- what is in a list that was read
 abbrev pub said_by : {S : Type 0} → (S → Meaning) → CallList S → Standing
 said_by f list = record { tasks = list.tasks.items; calls = map (listed_by f) list.calls.items }
 

@@ -298,7 +298,7 @@ fn file_set_size<S: Server>(args: &[Bytes]) -> Result<Call<S>, ReadFault>
     Ok(Call::Plain(PlainCall::FileSetSize { port, size }))
 }
 
-/// Where the word `box` stands first.
+/// Where the word `box` comes first.
 fn box_place(words: &[Bytes]) -> Option<usize>
     ensures { result ≡ box_place words.now }
 {
@@ -505,7 +505,7 @@ fn started<S>(server: Option<S>) -> Call<S>
     }
 }
 
-/// A call with this server in the place of the one that it brings: a start without one is a start that failed.
+/// A call with this server in place of the one that it brings: a start without one is a start that failed.
 pub fn with_server<S: Server>(call: Call<S>, server: Option<S>) -> Call<S>
     ensures is { result ≡ with_server server call }
     ensures begun { IfSome server (λ s. Begins (S.meaning s)) → BringsBegun (call_by S.meaning result) }

@@ -33,7 +33,7 @@ use Rattle.hurd_looks.proofs.RowsRenamed.{bodies-renamed, node_row-renamed, open
 abbrev Kept : Type 0
 Kept = List (Name × Row)
 
--- what stands under a name in what is listed is what stands there
+-- what is under a name in what is listed is what is there
 
 row_found : (es : Kept) (q : Name) (e : Name × Row) (b : Bool) → same_name q e.0 ≡ b → row_at (e ∷ es) q ≡ (if b then e.1 else row_at es q)
 row_found es q e b is = ap (λ (c : Bool). if c then e.1 else row_at es q) is

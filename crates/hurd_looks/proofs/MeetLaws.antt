@@ -10,12 +10,12 @@ use Rattle.hurd_sight.specs.Parts.{is_in}
 use Rattle.hurd_looks.specs.Pairings.{Agrees, PairUp, Pairing}
 unfoldable use Rattle.hurd_looks.specs.Pairings.{PairsFor}
 
--- what holds of each answer that is no want of memory
+-- what holds of each answer that is not ENOMEM
 pub ok_then : {A E : Type 0} (P Q : A → Type 0) → ((x : A) → P x → Q x) → (r : Result A E) → IfOk r P → IfOk r Q
 ok_then P Q then (Ok x) h = then x h
 ok_then P Q then (Err e) h = h
 
--- what stands at a place
+-- what is at a place
 pub got_at : {A : Type 0} (xs : List A) (i : ℕ) (x : A) → i < length xs → x ≡ slice_index_or xs i x → slice_get xs i ≡ Some x
 got_at [] i x within is = absurd (omega (arith, within))
 got_at (y ∷ xs) zero x within is = ap (λ (z : _). Some z) (sym is)

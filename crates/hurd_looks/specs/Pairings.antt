@@ -40,7 +40,7 @@ abbrev pub HaveOneMaker : Pairing → Type 0
 HaveOneMaker [] = Unit {0}
 HaveOneMaker (p ∷ ps) = (p.0.task ≡ p.1.task) × HaveOneMaker ps
 
--- no name stands in two pairs of either view
+-- no name is in two pairs of either view
 pub record IsOneToOne (ps : Pairing) : Type 0 where
   pub names : AreApart (map (λ (p : Name × Name). p.0) ps)
   pub others : AreApart (map (λ (p : Name × Name). p.1) ps)

@@ -7,7 +7,7 @@ use crate::pairs::Pairs;
 use hurd_creds::Name;
 use std::alloc::AllocError;
 
-/// What stands in both views, with names in it.
+/// What is in both views, with names in it.
 pub(crate) trait Meet {
     ghost use Rattle.hurd_creds.specs.declared.name.Name.{Name};
 

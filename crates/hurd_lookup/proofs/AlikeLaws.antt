@@ -1,10 +1,10 @@
--- What is asked alike in two worlds, shown in one go: it is the same in both, its answer has a property, and no refusal is want of memory.
+-- What is asked alike in two worlds, shown in one go: it is the same in both, its answer has a property, and no refusal is ENOMEM.
 use Rattle.std.proofs.Common.{◌≡◌, Bool, true, false, Option, Some, None, refl, subst}
 use Rattle.std.specs.Prelude.{if◌then◌else◌, Result, Ok, Err}
 use Rattle.hurd_machine.proofs.Common.{Errno, first, given, is_no_memory, on}
 use Rattle.hurd_machine.proofs.Asks.{IsPlain, ok_plain, err_plain}
 
--- y is x, an answer of which has P, and no refusal of which is want of memory
+-- y is x, an answer of which has P, and no refusal of which is ENOMEM
 pub record Alike {A : Type 0} (P : A → Type 0) (x y : Result A Errno) : Type 0 where
   pub same : y ≡ x
   pub has : (a : A) → x ≡ Ok a → P a

@@ -47,7 +47,7 @@ got_among : (n : Name) (ns : List Name) → slice_get ns 0 ≡ Some n → IsAmon
 got_among n [] is = absurd (cc)
 got_among n (m ∷ ns) is = inl (let same : m ≡ n = cc in same)
 
--- what a walk asks is the same in both worlds, it leads to where it can be, and no refusal on the way is want of memory
+-- what a walk asks is the same in both worlds, it leads to where it can be, and no refusal on the way is ENOMEM
 module _ {v w : World} {At Near Entries : Name → Type 0} {T : IdSets → Type 0} (g : Ground v w At Near Entries T) (q : Authority) (taken : T q.ids) (ways : WaysOn At q.ways) where
   -- one way more
   longer : (n d : Name) → At n → At d → WaysOn At (record { at = n; parent = d } ∷ q.ways)

@@ -1,4 +1,4 @@
--- The end of the names: what is asked there is the same in both worlds, what its answer shows, and that no refusal is want of memory.
+-- The end of the names: what is asked there is the same in both worlds, what its answer shows, and that no refusal is ENOMEM.
 use Rattle.std.proofs.Common.{◌≡◌, ℕ, Bool, true, not, ◌&&◌, List, Some, None, refl, ap, inr}
 use Rattle.std.specs.Prelude.{Ok}
 use Rattle.hurd_machine.proofs.Common.{BodyOf, File, Header, IdSets, Name, OpenFlags, Seen, Sees, Taken, WRITE, World, Write, asks, bare, header_at, home_at, info_at, is_dir, is_removed, makes_at, may, only_reads}

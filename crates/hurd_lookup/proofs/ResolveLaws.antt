@@ -1,4 +1,4 @@
--- What is resolved is the same in both worlds, leads to where a walk can be, and no refusal is want of memory.
+-- What is resolved is the same in both worlds, leads to where a walk can be, and no refusal is ENOMEM.
 use Rattle.std.proofs.Common.{◌≡◌, ℕ, zero, suc, false, length, Bool, List, [], ◌∷◌, Some, None, refl, ap, inl, inr, subst}
 use Rattle.std.specs.Prelude.{Result}
 use Rattle.hurd_machine.proofs.Common.{ENOENT, Errno, IdSets, IsAmong, Name, Seen, World, is_no_memory}

@@ -8,7 +8,7 @@ use Rattle.hurd_core.specs.Core.{asked_only, room_asks}
 use Rattle.hurd_core.proofs.CoreLaws.{IsRefused, HasRoom, room}
 use Rattle.hurd_lookup.specs.Lookup.{no_ids}
 
--- no ids are never too many: if they are refused, it is for want of memory
+-- no ids are never too many: if they are refused, it is for lack of memory
 pub ids_none : ids_of [] [] ≡ Ok no_ids
 ids_none = rw (set.len-empty nat_cmp) refl
 

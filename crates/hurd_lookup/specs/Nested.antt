@@ -80,7 +80,7 @@ says_aims program ws = if bytes_eq program (codes "/hurd/firmlink") then is_some
 abbrev pub HasAims : World → Name → Type 0
 HasAims w n = words_aims (words_at w n) ≢ []
 
--- what waits at the end of a path, if something does; only want of memory is not passed over
+-- what waits at the end of a path, if something does; only ENOMEM is not passed over
 abbrev pub passed : Result Landing Errno → Result (Option Name) Errno
 passed (Ok l) = Ok (asleep (Ok l))
 passed (Err e) = if is_no_memory e then Err ENOMEM else Ok None

@@ -60,7 +60,7 @@ gained_may S v x r a z ids gains m = (among (RightMay S v x) m.0, elim m.1 [ inl
 abbrev pub KeepsCount : (Header → Header) → Type 0
 KeepsCount f = (h : Header) → counts_for (f h) ≡ counts_for h
 
--- what S saw, its ids among it, is of the world v before the call; what stands is of the world x, in which the change is made
+-- what S saw, its ids among it, is of the world v before the call; what is there is of the world x, in which the change is made
 abbrev pub May : (ℕ → Bool) → World → World → Change → Type 0
 May S v x (EditHeader n f) = ((h : Header) → header_at x n ≡ Some h → Less S v n (f h) h) × (KeepsCount f ⊎ SeenOrNew S v n)
 May S v x (EditBody n g) =

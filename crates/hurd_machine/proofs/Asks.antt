@@ -1,4 +1,4 @@
--- What a call asks: the same in worlds that answer the same, what an answer shows, and that no answer is want of memory.
+-- What a call asks: the same in worlds that answer the same, what an answer shows, and that no answer is ENOMEM.
 use Rattle.std.proofs.Common.{List, ◌≡◌, ℕ, Bool, true, false, Option, Some, None, refl, sym, ◌∙◌, ap, ap₂, subst, true≢false, ◌&&◌}
 use Rattle.std.specs.Prelude.{if◌then◌else◌, not, is_some, nat_lt, Result, Ok, Err}
 use Rattle.hurd_machine.proofs.Common.{Body, BodyOf, Coherent, InRoot, faced, known_text, reads_text, server_at, with_text, EBADF, EDIED, EEXIST, EISDIR, ENOSPC, ENOTDIR, EOPNOTSUPP, EOVERFLOW, EROFS, ESRCH, EXDEV, Errno, Header, Holds, Io, IoRight, IsAmong, IsOpen, Kind, Name, Named, Node, OpenFlags, Plan, Question, READ, Reply, Right, Seen, Sees, ServerInfo, Task, WRITE, World, answered, are_kin, asked_at, asked_of, asks, counts_at, counts_by, edit_by, ends_at, entry_of, first, get, given, handle_asks, header_at, home_at, info_at, info_in, io_right_of, is_dir, is_made, is_no_memory, is_refused, is_root_at, is_server_root, is_taken, keeps_tree, link_by, link_in, links_at, makes_at, most_links, on, open_at, or_refuse, port_asks, ports_of, refuse, right_at, right_in, rights_of, sets_attrs_at, stream_at, task_at, task_of, tells, writing, EndsOf, counts_for, fitting, overfills, space_at}
@@ -71,7 +71,7 @@ unfolding answered
 answered_all P refused (Err e) k h = refused e
 answered_all P refused (Ok a) k h = h a refl
 
--- a refusal, if it is one, is not for want of memory
+-- a refusal, if it is one, is not ENOMEM
 abbrev pub IsPlain : {A : Type 0} → Result A Errno → Type 0
 IsPlain r = (e : Errno) → r ≡ Err e → is_no_memory e ≡ false
 
@@ -96,14 +96,14 @@ unfolding first
 first_plain (Err e) k out h = err_plain e (out e refl)
 first_plain (Ok a) k out h = h a refl
 
--- a reply that is no want of memory
+-- a reply that is not ENOMEM
 abbrev pub IsPlainReply : Reply → Type 0
 IsPlainReply r = lacks_memory r ≡ false
 
 pub refused_plain : (e : Errno) → is_no_memory e ≡ false → IsPlainReply (Refused e)
 refused_plain e out = out
 
--- what is no refusal is none for want of memory
+-- what is no refusal is none for lack of memory
 pub done_plain : (r : Reply) → is_refused r ≡ false → IsPlainReply r
 done_plain (Refused e) out = absurd (true≢false out)
 done_plain (Back e m) out = absurd (true≢false out)

@@ -1,4 +1,4 @@
--- The words that proofs speak in: definitions of this crate and of those that it stands on.
+-- The words that proofs speak in: definitions of this crate and of those that it is built on.
 pub use Rattle.std.specs.Borrow.{Bor}
 pub use Rattle.std.specs.Cmp.{nat_cmp_total, tied_itself}
 pub use Rattle.std.specs.FinMap.{empty, entries, entries-insert, get, get-empty, insert, nat_cmp-IsAntisymmetric, put, remove, retain_keys}

@@ -41,7 +41,7 @@ module _ (f : OtherNames) where
     find-renamed [] n = refl
     find-renamed (e ∷ es) n = rw (tied-renamed n e.0, find-renamed es n) (found (eq_by_cmp name_cmp n e.0) e.1 (fin.find name_cmp n es))
 
-    -- what stands at another name
+    -- what is at another name
     pub get-renamed : (m : NameMap X) (n : Name) → fin.get (map_renamed f.to g m) (f.to n) ≡ option_map g (fin.get m n)
     unfolding map_renamed
     get-renamed m n = get-keyed (λ (e : Name × X). f.to e.0) (λ (e : Name × X). g e.1) (fin.entries m) (f.to n) ∙ find-renamed (fin.entries m) n ∙ ap (option_map g) (sym (fin.get-entries m n))
@@ -55,7 +55,7 @@ module _ (f : OtherNames) where
         go true t rest here = (e.0, sym (equal_if_tied q (f.to e.0) t))
         go false t rest there = rest there
 
-    -- what stands there stands at one of the other names
+    -- what is there is at one of the other names
     pub origin : (m : NameMap X) (q : Name) (y : Y) → fin.get (map_renamed f.to g m) q ≡ Some y → (n : Name) × (f.to n ≡ q)
     unfolding map_renamed
     origin m q y is = find-origin (fin.entries m) q y (sym (get-keyed (λ (e : Name × X). f.to e.0) (λ (e : Name × X). g e.1) (fin.entries m) q) ∙ is)

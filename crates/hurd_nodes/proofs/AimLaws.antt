@@ -48,7 +48,7 @@ listings-next n ns i d below = rw (add-one i) (next_one (same_name n) ns i d bel
 pub listings-end : (n : Name) (ns : List Name) (i : ℕ) → length ns ≤ i → listings n (drop i ns) ≡ 0
 listings-end n ns i end = ap (listings n) (drop_all i ns end)
 
--- what stands at a place of a list is named from there on
+-- what is at a place of a list is named from there on
 pub listings_least : (ns : List Name) (i : ℕ) (d : Name) → i < length ns → 1 ≤ listings (slice_index_or ns i d) (drop i ns)
 listings_least ns i d below =
     let n = slice_index_or ns i d in
@@ -102,7 +102,7 @@ module _ {X : Type 0} (W : Name × X → ℕ) where
   insert_weighs : (m : NameMap X) (k : Name) (v : X) → fin.get m k ≡ None → weigh (fin.insert m k v) ≡ W (k, v) + weigh m
   insert_weighs m k v none = ap (weigh_list W) (fin.entries-insert name_total m k v) ∙ put_weighs k v (fin.entries m) (sym (fin.get-entries m k) ∙ none)
 
-  -- to put a thing in is to take away what stands there, and then to put it in
+  -- to put a thing in is to take away what is there, and then to put it in
   put_anew : (m : NameMap X) (k : Name) (v : X) → fin.insert m k v ≡ fin.insert (fin.remove m k) k v
   put_anew m k v = same_map_by _ _ (λ q. go q (same_or_apart q k))
     where
@@ -114,11 +114,11 @@ module _ {X : Type 0} (W : Name × X → ℕ) where
   put_over : (m : NameMap X) (k : Name) (v : X) → weigh (fin.insert m k v) ≡ W (k, v) + weigh (fin.remove m k)
   put_over m k v = ap weigh (put_anew m k v) ∙ insert_weighs (fin.remove m k) k v (remove_here m k)
 
-  -- a map weighs what stands under a name, and what is left without it
+  -- a map weighs what is under a name, and what is left without it
   remove_weighs : (m : NameMap X) (k : Name) (v : X) → fin.get m k ≡ Some v → weigh m ≡ W (k, v) + weigh (fin.remove m k)
   remove_weighs m k v is = ap weigh (sym (insert_same m k v is)) ∙ put_over m k v
 
-  -- without what stands under a name, a map is shorter by one
+  -- without what is under a name, a map is shorter by one
   removed_len : (m : NameMap X) (k : Name) (v : X) → fin.get m k ≡ Some v → fin.len m ≡ fin.len (fin.remove m k) + 1
   removed_len m k v is =
       let less = fin.remove m k in

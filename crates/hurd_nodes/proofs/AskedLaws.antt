@@ -31,7 +31,7 @@ module _ {X : Type 0} where
     | inr other ↦ inr (λ e. other.0 (omega (arith, e)), other.1)
   ]
 
-  -- of two that changed places each stands where the other stood
+  -- of two that changed places each is where the other was
   pub swap_got : (xs : List X) (a b k : ℕ) (x : X) → a < length xs → b < length xs → slice_get (swap xs a b) k ≡ Some x
       → ((k ≡ b) × (slice_get xs a ≡ Some x)) ⊎ ((k ≢ b) × (((k ≡ a) × (slice_get xs b ≡ Some x)) ⊎ ((k ≢ a) × (slice_get xs k ≡ Some x))))
   swap_got [] a b k x la lb is = absurd (omega (arith, la))
@@ -55,7 +55,7 @@ module _ {X : Type 0} where
   take_got (suc n) (y ∷ xs) zero x is = (omega arith, is)
   take_got (suc n) (y ∷ xs) (suc k) x is = let r = take_got n xs k x is in (omega (arith, r.0), r.1)
 
-  -- the last stands in the place of one that was taken out
+  -- the last is in place of one that was taken out
   pub out_got : (xs : List X) (i : ℕ) (d : X) (k : ℕ) (x : X) → i < length xs → slice_get (swap_remove xs i d) k ≡ Some x
       → (k + 1 < length xs) × (((k ≡ i) × (slice_get xs (length xs - 1) ≡ Some x)) ⊎ ((k ≢ i) × (slice_get xs k ≡ Some x)))
   out_got xs i d k x below is =
@@ -68,11 +68,11 @@ module _ {X : Type 0} where
         ],
       )
 
-  -- what comes after stands on the list
+  -- what comes after is on the list
   pub behind_more : (k : ℕ) (xs : List X) (x : X) (i : ℕ) → k ≤ i → slice_get xs i ≡ Some x → Behind k xs x
   behind_more k xs x i past is = record { at = i; past = past; is = is }
 
--- what stands at a place is found there by its name
+-- what is at a place is found there by its name
 later : (b : Bool) (o : Option ℕ) (k : ℕ) → b ≡ false → o ≡ Some k → cond b (Some 0) (option_map (λ i. i + 1) o) ≡ Some (suc k)
 later b o k off is = let on : k + 1 ≡ suc k = omega arith in rw (off, is) (ap Some on)
 
@@ -95,7 +95,7 @@ own-place (e ∷ es) (suc k) x apart is =
 pub named-at : {X : Type 0} (es : List (Name × X)) (s : Name) (i : ℕ) (x : Name × X) → place_by row_key s es ≡ Some i → slice_get es i ≡ Some x → x.0 ≡ s
 named-at es s i x at is = sym (ap (λ (y : Name × _). y.0) (get_or_from_slice_get es i x x is)) ∙ (place-is row_key (λ (y : Name × _). y) s es i at).named x
 
--- what is read at the place of a name stands there under that name
+-- what is read at the place of a name is there under that name
 
 value_at : {X : Type 0} (es : List (Name × X)) (i : ℕ) (v : X) → slice_get (values_of es) i ≡ Some v → (e : Name × X) × (slice_get es i ≡ Some e) × (e.1 ≡ v)
 value_at [] i v read = let none : None ≡ Some v = read in absurd (cc)
@@ -189,7 +189,7 @@ drop-less (e ∷ es) apart s k x b = by (position (same_name s) (keys_of (e ∷ 
           | inr other ↦ (not_here (e ∷ es) apart s i (sym at) b.at x other.1 other.0, behind_more k (e ∷ es) x b.at b.past other.1)
         ]
 
--- one that is put, in the place of what had its name, or last
+-- one that is put, in place of what had its name, or last
 pub put_got : {X : Type 0} (es : List (Name × X)) (n : Name) (v : X) (i : ℕ) (x : Name × X) → slice_get (insert_entry same_name es n v) i ≡ Some x → (x ≡ (n, v)) ⊎ (slice_get es i ≡ Some x)
 put_got [] n v zero x is = inl (sym (same_Some (n, v) x is))
 put_got [] n v (suc i) x is = let none : None ≡ Some x = is in absurd (cc)
@@ -206,7 +206,7 @@ put_got (e ∷ es) n v i x is = elim (cases_Bool (same_name n e.0)) [
     there rest zero at = inr at
     there rest (suc k) at = rest k at
 
--- what is found under a name stands there
+-- what is found under a name is there
 pub lookup-behind : {X : Type 0} (es : List (Name × X)) (n : Name) (v : X) → lookup (same_name n) es ≡ Some v → Behind 0 es (n, v)
 lookup-behind [] n v is = absurd (let none : None ≡ Some v = is in cc)
 lookup-behind (e ∷ es) n v is = elim (cases_Bool (same_name n e.0)) [
@@ -239,7 +239,7 @@ pub absent-seat : {S : Type 0} (ss : List (Name × Seat S)) (s : Name) → place
 unfolding seats_of
 absent-seat ss s none = get-absent seat_key seated_in s ss (sym none)
 
--- a seat that stands somewhere is there
+-- a seat that is somewhere is there
 pub behind-there : {S : Type 0} (ss : List (Name × Seat S)) → AreApart seat_key ss → (x : Name × Seat S) → Behind 0 ss x → is_some (fin.get (seats_of ss) x.0) ≡ true
 unfolding seats_of
 behind-there ss apart x b = sym (contains-place seat_key seated_in x.0 ss) ∙ ap (λ (o : Option ℕ). is_some o) (own-place ss b.at x apart b.is)

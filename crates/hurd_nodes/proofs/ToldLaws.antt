@@ -55,6 +55,6 @@ told-first s e root = told-put (sites_of []) (s, e) none s s (λ same. rw (root,
       listed = λ n is. absurd (true≢false (sym (seated-none {S = Unit {0}} fin.empty n s is) ∙ ap (λ (o : Option _). is_some o) (fin.get-empty name_cmp s)));
     }
 
--- nothing stands on an empty list
+-- nothing is on an empty list
 pub nowhere : {X : Type 0} (k : ℕ) (x : X) → Behind k [] x → ⊥
 nowhere k x b = let none : None ≡ Some x = b.is in absurd (cc)

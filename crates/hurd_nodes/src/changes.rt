@@ -143,7 +143,7 @@ impl<S: Server> Nodes<S> {
         }
     }
 
-    /// Takes the first entry `name` out of a directory and puts it last into another one, or the same, as `new`: in the place of the entry of that name, where there is
+    /// Takes the first entry `name` out of a directory and puts it last into another one, or the same, as `new`: in place of the entry of that name, where there is
     /// one, whose node loses it as by `unlink`. A directory gets its new parent. Where both entries name one node nothing changes. What the two nodes are is for who asks.
     ///
     /// Errors, in order: `EDIED` no such directory, `ENOTDIR`, `EROFS` its server keeps no tree, `EXDEV` the two are of different servers, `EDIED` no such directory

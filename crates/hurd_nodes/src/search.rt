@@ -83,7 +83,7 @@ pub(crate) fn place_of_server<S>(sites: &Sites, seats: &Seats<S>, node: NodeName
     place_of_home(seats, home_of(sites, node))
 }
 
-/// Gives a node a site with this server, in the place of the one that it has. There is room for one more.
+/// Gives a node a site with this server, in place of the one that it has. There is room for one more.
 #[tactic(auto, using(crate::proofs::HomeLaws::by_map))]
 pub(crate) fn put_site(sites: &mut Sites, node: NodeName, server: ServerName)
     requires { 0 < spare sites.old }
@@ -156,7 +156,7 @@ pub(crate) fn put_kin<S>(
     asked
 }
 
-/// Gives a server a seat, in the place of the one that it has. There is room for one more.
+/// Gives a server a seat, in place of the one that it has. There is room for one more.
 #[tactic(auto, using(crate::proofs::HomeLaws::by_map, crate::proofs::AskedLaws::put))]
 pub(crate) fn put_seat<S: Drop>(seats: &mut Seats<S>, name: ServerName, seat: Seat<S>)
     requires { 0 < spare seats.old }
@@ -197,7 +197,7 @@ pub(crate) fn seat_new<S: Drop>(
     ask(seats, then, name)
 }
 
-/// Takes room for one more server, which has so many targets. `ENOMEM`: what stands in the tables is as it was.
+/// Takes room for one more server, which has so many targets. `ENOMEM`: what is in the tables is as it was.
 pub(crate) fn reserve_rows<S>(
     sites: &mut Sites,
     seats: &mut Seats<S>,

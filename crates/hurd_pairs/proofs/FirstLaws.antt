@@ -25,7 +25,7 @@ module _ {X : Type 0} (Same Other : X → X → Type 0) where
   other_here x y xs ys other = inr (other, refl)
 
 module _ (Same Other : Moment → Moment → Type 0) (Says : Moment → Moment → Difference → Type 0) (ms ns : List Moment) where
-  -- of two lists of moments what stands in front of these was gone through: what was found is the first, or will be found in what is left
+  -- of two lists of moments what is in front of these was gone through: what was found is the first, or will be found in what is left
   abbrev pub SoFar : List Moment → List Moment → Option Difference → Type 0
   SoFar xs ys None = (found : Option (Moment × Moment)) → FirstOther Same Other xs ys found → FirstOther Same Other ms ns found
   SoFar xs ys (Some d) = FirstSaid Same Other Says ms ns (Some d)
@@ -72,7 +72,7 @@ module _ {X : Type 0} (Same Other : X → X → Type 0) where
       let pair : (x, y) ≡ (a, b) = cc in
       (subst P (sym (ap (λ (p : X × X). p.0) pair)) ps.0, subst Q (sym (ap (λ (p : X × X). p.1) pair)) qs.0)
 
-  -- what is the same or other may be said in other words, where these are the same of all that stands in both lists
+  -- what is the same or other may be said in other words, where these are the same of all that is in both lists
   pub said_otherwise : (P : X → Type 0) (Like Unlike : X → X → Type 0) → ((x y : X) → P x → P y → Same x y → Like x y) → ((x y : X) → P x → P y → Other x y → Unlike x y)
       → (xs ys : List X) (found : Option (X × X)) → Each P xs → Each P ys → FirstOther Same Other xs ys found → FirstOther Like Unlike xs ys found
   unfolding FirstOther

@@ -115,7 +115,7 @@ module _ (S : ℕ → Bool) (cs : List CommandLine) where
       let is : at ≡ length cs = omega (arith, within, past) in
       end_reached from (omega (arith, behind, within)) (same ∙ ap (λ (k : ℕ). own_from S k (drop k cs)) is)
 
-  -- what stands at such a place: a command of theirs, and those after it, or the end
+  -- what is at such a place: a command of theirs, and those after it, or the end
   pub record Head (at : ℕ) : Type 0 where
     pub rest : List Own
     pub is : own_from S at (drop at cs) ≡ record { made = at; command = slice_get cs at } ∷ rest
@@ -164,7 +164,7 @@ module _ (S : ℕ → Bool) (cs ds : List CommandLine) where
   }
 
   module _ (i j : ℕ) (so : Matching i j) where
-    -- another command stands here
+    -- another command is here
     pub other_found : slice_get cs i ≢ slice_get ds j → CommandsDiffer S cs ds (Some (Commands i j))
     other_found other =
         let x = head S cs i so.first in
@@ -176,7 +176,7 @@ module _ (S : ℕ → Bool) (cs ds : List CommandLine) where
           refl,
         )
 
-    -- the same stands here, and one script has no more
+    -- the same is here, and one script has no more
     pub none_differ : slice_get cs i ≡ slice_get ds j → (length cs ≤ i) ⊎ (length ds ≤ j) → CommandsDiffer S cs ds None
     none_differ same end =
         let x = head S cs i so.first in
@@ -184,7 +184,7 @@ module _ (S : ℕ → Bool) (cs ds : List CommandLine) where
         let none : (x.rest ≡ []) ⊎ (y.rest ≡ []) = elim end [ inl one ↦ inl (x.none one) | inr two ↦ inr (y.none two) ] in
         same_commands S cs ds (so.found None (rw (x.is, y.is) (same_more GiveSame GiveOther _ _ x.rest y.rest None same (none_left GiveSame GiveOther x.rest y.rest none))))
 
-    -- the same stands here, and both go on
+    -- the same is here, and both go on
     pub matching_more : slice_get cs i ≡ slice_get ds j → i < length cs → j < length ds → (k l : ℕ) → IsNextOwn S cs (i + 1) k → IsNextOwn S ds (j + 1) l → Matching k l
     matching_more same one two k l first second =
         let x = head S cs i so.first in

@@ -38,7 +38,7 @@ pub enum Mismatch {
     Commands { one: usize, two: usize },
 }
 
-/// Why two scripts are not compared to their end. Want of memory, and that the output can't be written, is told as the first's.
+/// Why two scripts are not compared to their end. ENOMEM, and that the output can't be written, is told as the first's.
 #[derive(Clone, Copy, Debug, PartialEq, Eq)]
 pub enum PairFault {
     First(Fault),

@@ -11,7 +11,7 @@ use Rattle.hurd_pictures.specs.declared.names.Sought.{Sought}
 use Rattle.hurd_pictures.proofs.DrawingLaws.{beyond, here}
 use Rattle.std.proofs.lemmas.Option.{slice_get_cases}
 
--- it stands under the name at an index, or further on
+-- it is under the name at an index, or further on
 pub sought_at : (v : View) (s : Sought) (es : List (Name × Row)) (i : ℕ) (n : Name) (t : Bool) → Some n ≡ option_map (λ (e : Name × Row). e.0) (slice_get es i)
     → is_sought s (row_at v.rows n) ≡ t → first_sought v s (drop i es) ≡ (if t then Some n else first_sought v s (drop (i + 1) es))
 sought_at v s es i n t is sought = go (slice_get es i) refl is

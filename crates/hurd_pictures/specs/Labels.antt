@@ -1,11 +1,11 @@
--- What stands in labels: bytes, words, numbers and names.
+-- What is in labels: bytes, words, numbers and names.
 use Rattle.std.specs.Prelude.{ℕ, ◌==◌, ◌++◌, List, [], ◌∷◌, Option, Some, None, if◌then◌else◌, codes, decimal, length, nat_le, slice_get, take}
 use Rattle.hurd_creds.specs.declared.name.Name.{Name}
 use Rattle.hurd_words.specs.Escapes.{escaped_byte}
 use Rattle.hurd_pictures.specs.declared.names.Owner.{Owner}
 use Rattle.hurd_pictures.specs.declared.names.Titles.{Titles}
 
--- a byte as it stands in a label: an entity where it is markup, two backslashes for each that is shown, and an escape where it can't be printed
+-- a byte as it is in a label: an entity where it is markup, two backslashes for each that is shown, and an escape where it can't be printed
 abbrev pub label_byte : ℕ → List ℕ
 label_byte b =
     if b == 38 then codes "&amp;"
@@ -17,7 +17,7 @@ label_byte b =
     else if b == 32 then codes " "
     else escaped_byte b
 
--- bytes one after another, each as it stands in a label
+-- bytes one after another, each as it is in a label
 abbrev pub label : List ℕ → List ℕ
 label [] = []
 label (b ∷ bs) = label_byte b ++ label bs

@@ -17,6 +17,6 @@ DrawnUnseenWhereUnseen =
 abbrev pub is_plain : ℕ → Bool
 is_plain b = (nat_le 32 b && nat_le b 126) && (not (b == 60) && (not (b == 62) && not (b == 34)))
 
--- whatever bytes are shown in a label, all that stands there is plain: neither markup nor a text begins or ends with it
+-- whatever bytes are shown in a label, all that is there is plain: neither markup nor a text begins or ends with it
 abbrev pub LabelsArePlain : Type 0
 LabelsArePlain = (bs : List ℕ) → list_all (λ b. nat_lt b 256) bs ≡ true → list_all is_plain (shown bs) ≡ true

@@ -38,7 +38,7 @@ rows_text t v theirs ns = concat (map (drawn t v theirs) ns)
 abbrev pub head : List ℕ
 head = codes "digraph hurd {\n  rankdir=LR; nodesep=0.3; ranksep=0.6; fontname=\"Helvetica\"; fontsize=14;\n  style=\"rounded,filled\"; color=\"#8a93a6\"; fillcolor=\"#f4f6fb\"; bgcolor=white;\n  node [fontname=\"Helvetica\", fontsize=13, style=filled, fillcolor=white];\n  edge [fontname=\"Helvetica\", fontsize=11, arrowsize=0.7];\n"
 
--- what stands in front of those who are marked, and after them: the colours
+-- what is in front of those who are marked, and after them: the colours
 abbrev pub legend_begin : List ℕ
 legend_begin = codes "  label=<<table border=\"0\" cellspacing=\"6\"><tr><td>What <b>"
 

@@ -23,7 +23,7 @@ fn push_by_escape(text: &mut Vec<u8>, byte: u8) -> Result<(), AllocError>
     push_escaped(text, &[byte])
 }
 
-/// Adds a byte as it stands in a label. Graphviz reads two backslashes there as one, `\N` as the name of the node, and `]` as the
+/// Adds a byte as it is in a label. Graphviz reads two backslashes there as one, `\N` as the name of the node, and `]` as the
 /// end of what can't be marked up.
 fn push_byte(text: &mut Vec<u8>, byte: u8) -> Result<(), AllocError>
     ensures { OnOk result (text.new.items ≡ text.old.items ++ label_byte byte) }

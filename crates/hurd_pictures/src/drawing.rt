@@ -15,7 +15,7 @@ use std::alloc::{AllocError, Global};
 const HEAD: &[u8] =
     b"digraph hurd {\n  rankdir=LR; nodesep=0.3; ranksep=0.6; fontname=\"Helvetica\"; fontsize=14;\n  style=\"rounded,filled\"; color=\"#8a93a6\"; fillcolor=\"#f4f6fb\"; bgcolor=white;\n  node [fontname=\"Helvetica\", fontsize=13, style=filled, fillcolor=white];\n  edge [fontname=\"Helvetica\", fontsize=11, arrowsize=0.7];\n";
 
-/// What stands in front of those who are marked.
+/// What is in front of those who are marked.
 const LEGEND: &[u8] = b"  label=<<table border=\"0\" cellspacing=\"6\"><tr><td>What <b>";
 
 /// What comes after them: the colours.

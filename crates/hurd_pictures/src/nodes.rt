@@ -222,7 +222,7 @@ pub(crate) fn push_box(text: &mut Vec<u8>, server: Option<ServerName>) -> Result
     }
 }
 
-/// What stands at the end of it.
+/// What is at the end of it.
 pub(crate) fn box_end(server: Option<ServerName>) -> &'static [u8]
     ensures { result.now ≡ box_end server }
 {

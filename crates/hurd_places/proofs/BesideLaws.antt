@@ -1,4 +1,4 @@
--- What stands beside a path is told from it: it begins with a space and a bracket.
+-- What is beside a path is told from it: it begins with a space and a bracket.
 use Rattle.std.proofs.Common.{◌≡◌, ◌⊎◌, inl, inr, ◌∙◌, refl, sym, ap, subst, ℕ, ◌==◌, ◌&&◌, ◌||◌, not, Bool, true, false, true≢false, List, [], ◌∷◌, ◌++◌, append_assoc, Option, Some, None, if◌then◌else◌, codes}
 use Rattle.std.proofs.lemmas.Bool.{and_from, and_parts, cases_Bool, eqb-true}
 use Rattle.hurd_creds.specs.declared.name.Name.{Name}
@@ -18,7 +18,7 @@ use Rattle.hurd_places.proofs.CutLaws.{is_cut, is_inner, is_whole}
 use Rattle.hurd_places.proofs.EachBeside.{each_beside}
 use Rattle.hurd_places.proofs.StepLaws.{IsLast, underlying_last, child_front, child_last, front, is_last, is_stem, last, split}
 
--- whether a text begins with a bracket; whether no bracket comes after a space; and whether no space stands last
+-- whether a text begins with a bracket; whether no bracket comes after a space; and whether no space comes last
 
 abbrev opens : List ℕ → Bool
 opens [] = false
@@ -189,7 +189,7 @@ covered_path_clean v n = covered_clean (is_covered v n) (path_along v (way_of v 
 path_clean : (v : View) (n : Name) → Clean (node_path v n)
 path_clean v n = root_clean (covered_path (is_covered v n) (path_along v (way_of v n)) (level_along v (way_of v n))) (covered_path_clean v n)
 
--- what stands beside a path begins with a space and a bracket
+-- what is beside a path begins with a space and a bracket
 
 abbrev pub spaces : List ℕ → Bool
 spaces [] = true
@@ -224,7 +224,7 @@ clean_same (x ∷ p) (y ∷ q) b c ap_p cl_p ap_q cl_q b_is c_is is =
     let rest = clean_same p q b c (and_parts (not (x == 32 && opens p)) (apart p) ap_p).1 (closed_rest x p cl_p) (and_parts (not (y == 32 && opens q)) (apart q) ap_q).1 (closed_rest y q cl_q) b_is c_is both.1 in
     ap (λ (z : ℕ). z ∷ p) both.0 ∙ ap (λ (s : List ℕ). y ∷ s) rest
 
--- a node has the path that something stands beside
+-- a node has the path that something is beside
 pub path_alone : (v : View) (n m : Name) (c : List ℕ) → spaces c ≡ true → node_place v n ≡ node_path v m ++ c → node_path v n ≡ node_path v m
 path_alone v n m c c_is is =
     let a = path_clean v n in

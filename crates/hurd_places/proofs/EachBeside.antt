@@ -1,4 +1,4 @@
--- What holds of each label beside a path holds of all that stands there.
+-- What holds of each label beside a path holds of all that is there.
 use Rattle.std.proofs.Common.{ℕ, ◌&&◌, Bool, true, false, List, [], ◌∷◌, ◌++◌, Option, Some, None, if◌then◌else◌, codes, nat_lt}
 use Rattle.hurd_creds.specs.declared.name.Name.{Name}
 use Rattle.hurd_creds.specs.declared.name.TaskId.{TaskId}

@@ -41,7 +41,7 @@ pub stem_level : (y : Why) (k : ℕ) → is_stem y ≡ true → level_by (Some y
 stem_level (why.Active m) k is = absurd (true≢false (sym is))
 stem_level _ k is = refl
 
--- the last step of a node, and what stands before it
+-- the last step of a node, and what comes before it
 
 abbrev pub child_front : List ℕ → List ℕ → List ℕ
 child_front [] path = path ++ 47 ∷ []

@@ -153,7 +153,7 @@ abbrev pub name_in : Option (Option BodyRow) → Name → List ℕ
 name_in (Some (Some (body.Entries es))) n = entry_name es n
 name_in _ n = []
 
--- a name as it stands in a path
+-- a name as it is in a path
 abbrev pub name_text : List ℕ → List ℕ
 name_text [] = codes "(unseen)"
 name_text (b ∷ bs) = spelled_name (b ∷ bs)
@@ -207,7 +207,7 @@ step_by v n path k (Some (why.Parent d)) = covered_path (is_covered v d) path k 
 step_by v n path k (Some (why.ServerRoot m)) = covered_path (is_covered v m) path k ++ codes "(root)"
 step_by v n path k (Some (why.Target m)) = covered_path (is_covered v m) path k ++ numbered (codes "target") (target_at v m n)
 
--- the level of a node at the end of a way, which stands first
+-- the level of a node at the end of a way, which comes first
 abbrev pub level_along : View → List Name → ℕ
 level_along v [] = 0
 level_along v (n ∷ ns) = level_by (why_of n v.sight.found) (level_along v ns)

@@ -68,7 +68,7 @@ fn name_in(body: &Option<Option<BodyRow>>, node: NodeName) -> &[u8]
     }
 }
 
-/// Adds a name as it stands in a path.
+/// Adds a name as it is in a path.
 fn push_name_text(text: &mut Vec<u8>, name: &[u8]) -> Result<(), AllocError>
     ensures { OnOk result (text.new.items ≡ text.old.items ++ name_text name.now) }
 {
@@ -266,7 +266,7 @@ pub(crate) struct Spot {
     pub level: u64,
 }
 
-/// The spot of a node at the end of a way, which stands first.
+/// The spot of a node at the end of a way, which comes first.
 fn along(alloc: Global, view: &View, mut way: Vec<NodeName>) -> Result<Spot, AllocError>
     ensures path { IfOk result (λ spot. spot.path.items ≡ path_along view.now way.items) }
     ensures level { IfOk result (λ spot. spot.level ≡ level_along view.now way.items) }

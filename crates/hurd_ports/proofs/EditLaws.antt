@@ -173,12 +173,12 @@ module _ {os : OpenMap} {ss : List TaskSeat} {t : ℕ} {s : TaskSeat} (seat : Se
   pub seat-named : (new : TaskSeat) → seat_task new ≡ named 1 (seat_task s) → state_of os (slice_set ss t new) ≡ name_step t (state_of os ss)
   seat-named new is = seat-put new (named 1 (seat_task s)) is ∙ sym (same_halves _ _ _ _ refl (edit-found t (named 1) (tasks_of ss) (seat_task s) there))
 
-  -- a right that was shared stands under its number
+  -- a right that was shared is under its number
   pub shared-new : (new : TaskSeat) (r : Right) → IsSound (state_of os ss) → seat_task new ≡ with_port r (seat_task s) → right_of (state_of os (slice_set ss t new)) t s.next ≡ Ok r
   shared-new new r sound is =
       ap (right_at s.next) (seat-there (slice_set ss t new) t new (set-here ss t s new seat.is) ∙ ap Some is) ∙ ap (or_refuse EBADF) (next_found 0 s.next s.ports.items r (sound.numbered t (seat_task s) there))
 
-  -- where the seat keeps its ports, each right stands where it stood
+  -- where the seat keeps its ports, each right is where it was
   pub right-kept : (new : TaskSeat) (q p : ℕ) → (seat_task new).ports ≡ s.ports.items → right_of (state_of os (slice_set ss t new)) q p ≡ right_of (state_of os ss) q p
   right-kept new q p same = ap (λ (h : PortState). right_of h q p) (seat-put new (seat_task new) refl) ∙ elim (one_or_other q t) [
     | inl e ↦ rw e (ap (right_at p) (set-here (tasks_of ss) t (seat_task s) (seat_task new) there) ∙ ap (λ (ps : List Port). or_refuse EBADF (right_in p ps)) same ∙ sym (ap (right_at p) there))

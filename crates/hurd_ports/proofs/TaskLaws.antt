@@ -1,4 +1,4 @@
--- Tasks by number: what stands at a place, and after a change of one.
+-- Tasks by number: what is at a place, and after a change of one.
 use Rattle.std.proofs.Common.{◌≡◌, ◌⊎◌, inl, inr, ℕ, zero, suc, List, [], ◌∷◌, length, map, refl, ap, sym, ◌∙◌, arith}
 use Rattle.std.proofs.lemmas.List.{length-set, set-set}
 use Rattle.std.specs.Prelude.{Option, Some, None, slice_get, slice_set}
@@ -34,7 +34,7 @@ module _ {A : Type 0} where
   set-same (y ∷ xs) zero x h = let e : y ≡ x = cc in ap (λ (z : A). z ∷ xs) (sym e)
   set-same (y ∷ xs) (suc i) x h = ap (λ (r : List A). y ∷ r) (set-same xs i x h)
 
-  -- what stands at a place after a change of one
+  -- what is at a place after a change of one
   pub set-cases : (xs : List A) (i : ℕ) (x y : A) (q : ℕ) (z : A) → slice_get xs i ≡ Some x → slice_get (slice_set xs i y) q ≡ Some z → ((q ≡ i) × (z ≡ y)) ⊎ (slice_get xs q ≡ Some z)
   set-cases xs i x y q z at is = elim (one_or_other q i) [
     | inl e ↦ inl (e, let here = set-here xs i x y at in let there : slice_get (slice_set xs i y) i ≡ Some z = ap (slice_get (slice_set xs i y)) (sym e) ∙ is in cc)

@@ -135,7 +135,7 @@ weigh_dropped W p x r is =
     let was = weigh_parts W x in
     omega arith
 
--- another thing to start, or nothing: that right comes in the place of the one that was
+-- another thing to start, or nothing: that right comes in place of the one that was
 pub pending_weighs : (W : Right → ℕ) (p : Option PendingStart) (x : Task)
     → weigh_list W (rights_of (with_pending p x)) + weigh_list W (start_of x.pending) ≡ weigh_list W (rights_of x) + weigh_list W (start_of p)
 pending_weighs W p x =

@@ -46,7 +46,7 @@ impl IoRight {
 pub enum Right {
     Io(IoRight),
     Control(ServerName),
-    /// To start the translator that waits on a node. It stands in no table and no inbox: a task has one at most, its pending start.
+    /// To start the translator that waits on a node. It is in no table and no inbox: a task has one at most, its pending start.
     Start(NodeName),
 }
 

@@ -40,7 +40,7 @@ abbrev pub mismatch_text : List ℕ → List ℕ → List ℕ → Mismatch → L
 mismatch_text first one two Users = codes ": not comparable: its users differ from those of " ++ first
 mismatch_text first one two (Commands m n) = other_command first (lines_in scripts one m) (lines_in scripts two n)
 
--- what stands on standard error, where the files have these names and hold these texts
+-- what is on standard error, where the files have these names and hold these texts
 abbrev pub pair_line : List ℕ → List ℕ → List ℕ → List ℕ → List ℕ → Result Verdict PairFault → List ℕ
 pair_line word first second one two (Ok verdict) = []
 pair_line word first second one two (Err (First fault)) = line_of first (scripts.complaint one) (scripts.stranger ++ (escaped word ++ codes "\n")) (Err fault)

@@ -22,7 +22,7 @@ PrintsSample sort count (Ok _) printed = IsSample sort count printed
 PrintsSample sort count (Err Write) printed = (text : List ℕ) × IsSample sort count text × IsFront printed text
 PrintsSample sort count (Err _) printed = printed ≡ []
 
--- what stands on standard error
+-- what is on standard error
 abbrev pub sample_line : Result (Unit {0}) SampleTrouble → List ℕ
 sample_line (Ok _) = []
 sample_line (Err TooLong) = codes "hurd: that many don't fit in 1048576 bytes\n"

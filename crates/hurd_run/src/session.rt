@@ -50,7 +50,7 @@ fn blamed(alloc: Global, text: &[u8], fault: ScriptFault) -> Result<Vec<u8>, All
     }
 }
 
-/// What is said after the name of a file whose script is bad: the line, why, and what stands there; of a good one nothing. Fails only if memory runs out.
+/// What is said after the name of a file whose script is bad: the line, why, and what is there; of a good one nothing. Fails only if memory runs out.
 pub(crate) fn complaint_of(alloc: Global, text: &[u8]) -> Result<Vec<u8>, AllocError>
     ensures { IfOk result (λ said. said.items ≡ scripts.complaint text.now) }
 {

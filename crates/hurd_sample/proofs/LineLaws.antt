@@ -118,7 +118,7 @@ line_command u v ws earlier names =
     rw ((name u).said (32 ∷ (verb_word v ++ spaced ws)), line_words u v ws, (name u).other (verb_word v ∷ filter_map text_of (kept ws)), names, (verb v).1)
     (command_there (task_of sample_names (user_word u)) v _ _ (name u).known)
 
--- no newline stands in a line
+-- no newline is in a line
 spaced_whole : (ws : List (List ℕ)) → NoByte 10 (spaced ws)
 spaced_whole [] = All-nil (λ b. nat_eq b 10 ≡ false)
 spaced_whole (w ∷ ws) =

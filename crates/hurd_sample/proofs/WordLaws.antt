@@ -78,7 +78,7 @@ good_word w p = both_false _ _ p.visible (let e = p.spelled [] refl in rw (appen
 pub written_word_good : (word : List ℕ) → is_bad_word text_of (written word) ≡ false
 written_word_good word = good_word (written word) (written_good word)
 
--- a byte that no word has stands in no visible word
+-- a byte that no word has is in no visible word
 pub not_hidden : (c : ℕ) → is_hidden c ≡ true → (w : List ℕ) → has_hidden_byte w ≡ false → All (λ b. nat_eq b c ≡ false) w
 not_hidden c h [] v = All-nil (λ b. nat_eq b c ≡ false)
 not_hidden c h (b ∷ bs) v =

@@ -15,7 +15,7 @@ const TASKS: &[u8] = b"task 0 0\ntask 1000 1000,100\ntask 1001 1001,100\ntask - 
 /// No call is written in fewer bytes.
 const LEAST_CALL: u64 = 8;
 
-/// What stands in the place of a line that is no call.
+/// What is in place of a line that is no call.
 const LOOK: &[u8] = b"0 io_stat 1";
 
 /// A random list of so many calls, good and the same for the same seed: four tasks; a directory for all and a server; then what they

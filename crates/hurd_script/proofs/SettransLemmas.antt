@@ -186,7 +186,7 @@ no_node_row (m ∷ seen) = rw (and_right (nat_eq m 110) false refl, no_node_row 
 settled_node : (seen node : Text) → settled rules (pending_node seen node) ≡ with_rows (rows_given seen node)
 settled_node seen node = ap with_rows (new_use (codes "node") (more_values CommandLine (node ∷ [])) (node_row node ∷ []) (map true_row seen) (no_node_row seen))
 
--- what stands in for the flags that are not there
+-- what is in for the flags that are not there
 -- the first row of an id
 abbrev row_at : Text → List Row → Option Row
 row_at id rows = find (λ r. bytes_eq r.id id) rows

@@ -176,7 +176,7 @@ fn flags_found(matches: &ArgMatches) -> SettransFlags
 }
 
 /// The flags, the node and the words after it, where there is a node and the flags are good.
-/// Clap is asked where a flag stands in front.
+/// Clap is asked where a flag is in front.
 pub fn setting_of<'a>(alloc: Global, words: &'a [String]) -> Result<Option<Setting<'a>>, AllocError>
     ensures { let ws = map string_bytes words.entry.now in
         IfOk result (λ found. option_map (λ s. (s.flags, (s.node.now, map string_bytes s.words.now))) found ≡ setting_of (letters_of (leading_flags ws)) (from_node ws)) }

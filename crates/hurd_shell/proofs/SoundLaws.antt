@@ -20,7 +20,7 @@ go_sound t (asks words k) w s = s
 pub stop_sound : {A : Type 0} {t : ℕ} {p q : Prog A} {w x : State} → go t q x.world ≡ record { world = x.world; rest = q } → LeadsTo t p w q x → Sound w.world → Sound x.world
 stop_sound {A} {t} {p} {q} {w} {x} stops l s = subst Sound (ap (λ (z : Pause A). z.world) (l.goes ∙ stops)) (go_sound t p w.world s)
 
--- a world that a program without want of memory ends in
+-- a world that a program that never lacks memory ends in
 pub does_sound : {A : Type 0} {t : ℕ} {p : Prog A} {w x : State} (answer : Result A Errno) → DoesAll t p w (stopped answer) x → Sound w.world → Sound x.world
 does_sound (Ok a) d s = stop_sound (go-gives _ (Ok a) _) d.ends s
 does_sound (Err e) d s = stop_sound (go-gives _ (Err e) _) d.ends s

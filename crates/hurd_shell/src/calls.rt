@@ -557,7 +557,7 @@ pub(crate) fn start_failed<S: Server>(
     Ok(())
 }
 
-/// Makes a call that brings a server, and drops a server that comes back; except for want of memory, where it is given back.
+/// Makes a call that brings a server, and drops a server that comes back; except for lack of memory, where it is given back.
 pub(crate) fn offered<S: Server>(
     world: &mut World<S>,
     alloc: Global,

@@ -510,7 +510,7 @@ fn could_search<S: Server>(nodes: &Nodes<S>, reach: &Reach, node: NodeName) -> b
     }
 }
 
-/// Want of memory, where an error is that.
+/// ENOMEM, where an error is that.
 fn unless_memory(errno: Errno) -> Result<(), AllocError>
     ensures { OnOk result (is_no_memory errno ≡ false) }
 {

@@ -57,7 +57,7 @@ abbrev pub still : {T : Type 0} → Result T Errno → Effect T
 still (Ok t) = only t
 still (Err e) = Err e
 
--- an effect changes nothing, and this is its answer, or want of memory
+-- an effect changes nothing, and this is its answer, or ENOMEM
 abbrev pub IsGiven : {T : Type 0} → Effect T → Result T Errno → Type 0
 IsGiven e got = (e ≡ still (told_of e)) × Meets (told_of e) got
 

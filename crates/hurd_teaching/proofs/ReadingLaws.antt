@@ -40,7 +40,7 @@ others_end n = go (n == 1)
     go true = refl
     go false = refl
 
--- one piece more stands in front of a line
+-- one piece more is in front of a line
 in_front : (front all line : List ℕ) → all ≡ line ++ 10 ∷ [] → front ++ all ≡ (front ++ line) ++ 10 ∷ []
 in_front front all line is = ap (λ (u : List ℕ). front ++ u) is ∙ sym (append_assoc front line (10 ∷ []))
 
@@ -48,7 +48,7 @@ line_end : (names thing : List ℕ) (t : Tally) → last_line names thing t ≡ 
 line_end names thing t =
     in_front names _ _ (in_front (codes " learned from ") _ _ (in_front (decimal t.taught) _ _ (in_front (codes " of ") _ _ (in_front (decimal t.others) _ _ (in_front thing _ _ (others_end t.others))))))
 
--- no newline stands in it
+-- no newline is in it
 
 pub no_newline : (b : ℕ) → is_letter b ≡ true → is_other 10 b ≡ true
 no_newline b letter = elim (cases_Bool (b == 10)) [

@@ -6,7 +6,7 @@ use Rattle.hurd_words.specs.Lines.{is_skipped}
 abbrev pub is_look : List ℕ → Bool
 is_look line = bytes_eq line (codes "# see")
 
--- one stands before the next line that says something
+-- one comes before the next line that says something
 abbrev pub asks_first : List (List ℕ) → Bool
 asks_first [] = false
 asks_first (line ∷ lines) = if is_look line then true else if is_skipped line then asks_first lines else false
@@ -19,7 +19,7 @@ asks_behind (line ∷ lines) =
     else if is_skipped line then asks_behind lines
     else asks_first lines ∷ asks_behind lines
 
--- the same, and first what stands before any of them; nothing stands before that
+-- the same, and first what comes before any of them; nothing comes before that
 abbrev pub asks_of : List (List ℕ) → List Bool
 asks_of lines = false ∷ asks_first lines ∷ asks_behind lines
 

@@ -23,7 +23,7 @@ refusal_by e = codes ": cannot create the initial tree: " ++ name_of e ++ codes 
 abbrev pub of_file : List ℕ → List ℕ → List ℕ
 of_file file tail = codes "hurd: " ++ (file ++ tail)
 
--- what stands on standard error: nothing where all was printed. After the name of a file a complaint stands where its text is bad, and another text
+-- what is on standard error: nothing where all was printed. After the name of a file a complaint stands where its text is bad, and another text
 -- where somebody is named who isn't in it
 abbrev pub line_of : List ℕ → List ℕ → List ℕ → Result (Unit {0}) Fault → List ℕ
 line_of file complaint stranger (Ok _) = []

@@ -43,7 +43,7 @@ listed-others n ns q apart =
 abbrev pub Keeps : NodeMap → NodeMap → Type 0
 Keeps m k = (q : Name) → is_entered_at (fin.get m q) ≡ true → is_entered_at (fin.get k q) ≡ true
 
--- a node put in the place of one that was there, and that an entry names if one did before
+-- a node put in place of one that was there, and that an entry names if one did before
 pub insert-keeps : (n : Name) (x y : Node) (m : NodeMap) → fin.get m n ≡ Some x → (is_entered x.header ≡ true → is_entered y.header ≡ true) → Keeps m (fin.insert m n y)
 insert-keeps n x y m is keeps q h = elim (same_or_apart q n) [
   | inl e ↦ rw (e, get_here m n y) (keeps (rw (e, is) at h))

@@ -39,7 +39,7 @@ sums : (m : NodeMap) → total count m ≡ total_in m
 unfolding total_in
 sums m = refl
 
--- a node put in the place of one that counted for as much
+-- a node put in place of one that counted for as much
 pub insert-counts : (n : Name) (x y : Node) (m : NodeMap) → fin.get m n ≡ Some x → counts_for y.header ≡ counts_for x.header → Counts m (fin.insert m n y)
 insert-counts n x y m is same q = elim (same_or_apart q n) [
   | inl e ↦ rw e (ap counted_at (get_here m n y) ∙ same ∙ sym (ap counted_at is))

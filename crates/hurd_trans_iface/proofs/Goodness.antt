@@ -13,7 +13,7 @@ use Rattle.hurd_trans_iface.specs.Arguments.{no_options}
 abbrev pub KeepsSize : {T : Type 0} → Behaviour → List ℕ → Node → Did T → Type 0
 KeepsSize b text x d = IsShaped x.header x.body → IsSized b text x → IsSized b text (node_left d x)
 
--- an answer after which something holds, or a refusal that isn't want of memory
+-- an answer after which something holds, or a refusal that isn't ENOMEM
 abbrev pub IsFine : {T : Type 0} → (Did T → Type 0) → Effect T → Type 0
 IsFine P (Ok d) = P d
 IsFine P (Err e) = is_no_memory e ≡ false
@@ -31,7 +31,7 @@ module _ {T : Type 0} (P : Did T → Type 0) where
   fine_if true x y whole other = whole refl
   fine_if false x y whole other = other refl
 
--- a kind without options has no other text, and what it refuses isn't for want of memory
+-- a kind without options has no other text, and what it refuses isn't ENOMEM
 
 pub no-options-text : (ws : List (List ℕ)) (new : List ℕ) → no_options ws ≡ Ok (Some new) → ⊥
 no-options-text [] new h = absurd (cc)

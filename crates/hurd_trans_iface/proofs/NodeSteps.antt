@@ -25,7 +25,7 @@ edit-inserted m n x f = edit_found (fin.insert m n x) n f x (get_here m n x) ∙
 abbrev pub with_nodes : Meaning → NodeMap → Meaning
 with_nodes m ns = record m { nodes = ns }
 
--- the server with another node in the place of a name
+-- the server with another node in place of a name
 abbrev with_node : Meaning → Name → Node → Meaning
 with_node m n x = with_nodes m (fin.insert m.nodes n x)
 

@@ -61,7 +61,7 @@ pub limit-within : (text : List ℕ) → length text ≤ most_digits → IsWithi
 limit-within [] few = refl
 limit-within (d ∷ ds) few = let long = length-append (codes "--size=") (d ∷ ds) in two-within (codes "/hurd/tmpfs") (codes "--size=" ++ d ∷ ds) (omega (arith, long, few))
 
--- options that are taken say a size, and a refusal of others isn't want of memory
+-- options that are taken say a size, and a refusal of others isn't ENOMEM
 
 abbrev SaysSize : Result (Option (List ℕ)) Errno → Type 0
 SaysSize (Ok None) = Unit {0}

@@ -16,7 +16,7 @@ use Rattle.hurd_trans_iface.proofs.Goodness.{IsFine, fine_done, fine_if}
 use Rattle.hurd_trans_iface.proofs.Owes.{Laws, OptionLaws, Said}
 use Rattle.hurd_trans_iface.proofs.Shown.{IsKept, Leaves, laws_by, left_kept, treeless}
 
--- an answer, or a refusal that isn't want of memory
+-- an answer, or a refusal that isn't ENOMEM
 abbrev pub IsPlainly : {T : Type 0} → Result T Errno → Type 0
 IsPlainly (Ok told) = Unit {0}
 IsPlainly (Err e) = is_no_memory e ≡ false

@@ -8,7 +8,7 @@ use Rattle.hurd_creds.specs.declared.errno.Errno.TheVariants.{EINVAL}
 abbrev pub behind : List ℕ → List ℕ → Option (List ℕ)
 behind first word = if bytes_eq (take (length first) word) first then Some (drop (length first) word) else None
 
--- no zero stands before other digits
+-- no zero comes before other digits
 abbrev pub is_bare : List ℕ → Bool
 is_bare (b ∷ c ∷ ds) = not (b == 48)
 is_bare ds = true

@@ -24,7 +24,7 @@ IsBlindAt b text q =
     (h : Header) (c e : Body)
     → let x : Node = record { header = h; body = c } in let y : Node = record { header = h; body = e } in q b text y ≡ q b text x
 
--- no refusal is want of memory: of memory a meaning knows nothing
+-- no refusal is ENOMEM: of memory a meaning knows nothing
 abbrev pub IsPlain : {T : Type 0} → Behaviour → Question T → Type 0
 IsPlain b q = (text : List ℕ) (x : Node) (e : Errno) → q b text x ≡ Err e → is_no_memory e ≡ false
 

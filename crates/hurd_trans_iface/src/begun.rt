@@ -188,7 +188,7 @@ fn magic(arguments: &[Bytes]) -> Option<&[u8]>
     }
 }
 
-/// Whether no zero stands before other digits.
+/// Whether no zero comes before other digits.
 fn is_bare(digits: &[u8]) -> bool
     ensures { result ≡ is_bare digits.now }
 {

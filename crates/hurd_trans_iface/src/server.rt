@@ -143,7 +143,7 @@ pub trait Server: Drop {
     fn unlink(&mut self, dir: NodeName, name: &[u8]) -> Result<(), Errno>
         ensures { (result, meaning self.new) ≡ unlink_step dir name.now (meaning self.old) };
 
-    /// Takes the first entry `name` out of a directory and puts it last into another one, or the same, as `new`: in the place of the entry of that name, where there is
+    /// Takes the first entry `name` out of a directory and puts it last into another one, or the same, as `new`: in place of the entry of that name, where there is
     /// one, whose node loses it as by `unlink`. A directory gets its new parent. Where both entries name one node nothing changes. Whether the entry may go,
     /// and what the two nodes are, is for who asks.
     ///

@@ -1,4 +1,4 @@
-//! Words as one text: a byte 0 ends each word, and in a word a byte 1 stands before each 0 and 1.
+//! Words as one text: a byte 0 ends each word, and in a word a byte 1 comes before each 0 and 1.
 ghost use Rattle.std.specs.Prelude.{◌≡◌, ◌++◌, ◌∷◌, [], IfOk};
 ghost use Rattle.hurd_trans_iface.specs.Kinds.Union.{marked, text_of};
 

@@ -33,7 +33,7 @@ pub(crate) fn word_at(words: &[Bytes], place: usize) -> &[u8]
     }
 }
 
-/// Where the word `box` stands first.
+/// Where the word `box` comes first.
 fn box_place(words: &[Bytes]) -> Option<usize>
     ensures { result ≡ box_place words.now }
 {

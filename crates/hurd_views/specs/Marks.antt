@@ -1,4 +1,4 @@
--- What stands before a server's text where it is told after its program.
+-- What comes before a server's text where it is told after its program.
 use Rattle.std.specs.Prelude.{ℕ, List, [], if◌then◌else◌, bytes_eq, codes}
 
 -- by the program's name: before a tree's, which is its limit, `--size=`; before a link's nothing

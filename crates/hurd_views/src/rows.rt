@@ -252,7 +252,7 @@ impl BodyRow {
 }
 
 impl ServerRow {
-    /// What stands before its text where that is told after its program: `--size=` if it is a tree, and else nothing.
+    /// What comes before its text where that is told after its program: `--size=` if it is a tree, and else nothing.
     pub fn text_mark(&self) -> &[u8]
         ensures { result.now ≡ text_mark self.now.program }
     {

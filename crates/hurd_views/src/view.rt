@@ -199,7 +199,7 @@ impl Rows {
         }
     }
 
-    /// What is seen under a name, after what is there, or in the place of what was there under it.
+    /// What is seen under a name, after what is there, or in place of what was there under it.
     fn add<S: Server>(
         &mut self,
         alloc: Global,

@@ -14,7 +14,7 @@ pub begun_answers : (sort : Sort) (text : List ℕ) (way : Way) → Begins sort 
 unfolding answer_of
 begun_answers sort text way b = rw (b.good, b.boots, b.left) refl
 
--- one that wasn't tells nothing, unless that was for want of memory
+-- one that wasn't tells nothing, unless that was for lack of memory
 pub none_answers : (sort : Sort) (text : List ℕ) (fault : Fault) → fault ≢ Memory → NotBegun sort text fault → None ≡ answer_of sort text
 unfolding answer_of
 none_answers sort text Read other not = absurd not

@@ -12,7 +12,7 @@ use Rattle.hurd_witnesses.specs.declared.places.Stand.TheVariants.{Plain, Backsl
 abbrev pub part_at : ℕ → ℕ → List ℕ → List ℕ
 part_at c i line = get_or (slice_split (λ b. b == c) line) i []
 
--- what stands in front of the first colon of a line that says what some learn who are called so
+-- what is in front of the first colon of a line that says what some learn who are called so
 abbrev pub head_of : List ℕ → ℕ → List ℕ
 head_of who users = codes "  " ++ (who ++ (if nat_lt 1 users then codes " learn" else codes " learns"))
 

@@ -98,7 +98,7 @@ witnessed sort h made [] = []
 witnessed sort h made (line ∷ lines) =
     (ended line ++ if_learned sort h made line) ++ witnessed sort h (if length line == 0 then made + 1 else made) lines
 
--- who learns, what stands in front of what they learn, and the lines of a script, of which the first so many stand before its commands
+-- who learns, what is in front of what they learn, and the lines of a script, of which the first so many stand before its commands
 pub record IsHunt (who script : List ℕ) (first : ℕ) (h : Hunt) : Type 0 where
   pub users : h.users.items ≡ slice_split (λ b. b == 44) who
   pub head : h.head ≡ head_of who (length (slice_split (λ b. b == 44) who))

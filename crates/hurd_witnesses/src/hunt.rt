@@ -16,7 +16,7 @@ use std::alloc::{AllocError, Global};
 pub struct Hunt {
     /// Their names.
     pub users: Vec<Bytes>,
-    /// What stands in front of what they learn.
+    /// What is in front of what they learn.
     pub head: Bytes,
     /// The text of the lines of the script that stand before its commands.
     pub front: Bytes,
@@ -59,7 +59,7 @@ fn names_in(alloc: Global, word: &str) -> Result<Vec<Bytes>, AllocError>
     Ok(names)
 }
 
-/// What stands in front of what so many learn who are called so. Fails only if memory runs out.
+/// What is in front of what so many learn who are called so. Fails only if memory runs out.
 fn head_of(alloc: Global, who: &str, users: usize) -> Result<Bytes, AllocError>
     ensures { IfOk result (λ head. head ≡ head_of who.now users) }
 {

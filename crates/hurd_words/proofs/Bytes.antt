@@ -41,7 +41,7 @@ other d b is same = true≢false (sym is ∙ not_from_true (b == d) (eq-eqb b d 
 abbrev pub Begins : ℕ → List ℕ → Type 0
 Begins d r = (r ≡ []) ⊎ ((t : List ℕ) × (r ≡ d ∷ t))
 
--- what stands before the first such byte
+-- what comes before the first such byte
 pub cut : (d : ℕ) (x y r s : List ℕ) → list_all (is_other d) x ≡ true → list_all (is_other d) y ≡ true → Begins d r → Begins d s → x ++ r ≡ y ++ s → (x ≡ y) × (r ≡ s)
 cut d [] [] r s a b r_begins s_begins is = (refl, is)
 cut d [] (c ∷ y) r s a b (inl none) s_begins is = absurd (cc)

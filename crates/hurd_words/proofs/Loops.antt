@@ -29,7 +29,7 @@ next_piece F items i h =
 pub last_piece : {Y : Type 0} (F : List (List ℕ) → Y) (items : List (Bor (List ℕ))) (i : ℕ) → length items ≤ i → F (drop i (said items)) ≡ F []
 last_piece F items i h = at_drop_all F (said items) i (omega (arith, length-said items))
 
--- one thing more stands in front
+-- one thing more is in front
 pub behind-push : {X : Type 0} (front : List X) (x : X) (o : Option (List X)) → behind front (option_map (λ xs. x ∷ xs) o) ≡ behind (front ++ x ∷ []) o
 behind-push front x None = refl
 behind-push front x (Some xs) = ap Some (sym (append_assoc front (x ∷ []) xs))

@@ -3,7 +3,7 @@ use Rattle.std.proofs.Common.{◌≡◌, ◌<◌, ◌≤◌, ◌+◌, ◌++◌, 
 use Rattle.std.proofs.lemmas.List.{at_drop_all, at_drop_more}
 use Rattle.hurd_words.specs.Marks.{marked_from, unended}
 
--- what stands before a byte, where a line may begin
+-- what comes before a byte, where a line may begin
 abbrev pub mark : Bool → List ℕ
 mark due = if due then codes "| " else []
 

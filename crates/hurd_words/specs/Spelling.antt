@@ -7,7 +7,7 @@ abbrev pub by_number : ℕ → List ℕ
 by_number b = 92 ∷ 120 ∷ hex_letter (b / 16) ∷ hex_letter (b % 16) ∷ []
 
 -- the bytes by which what a sentence says is told apart from what users wrote: a comma and a colon, brackets and the head of an arrow; and where a name
--- stands in a path, a slash
+-- is in a path, a slash
 abbrev pub is_joint : Bool → ℕ → Bool
 is_joint path b = b == 44 || (b == 58 || (b == 40 || (b == 41 || (b == 62 || (path && b == 47)))))
 
@@ -20,7 +20,7 @@ unfoldable pub spelled_by : Bool → List ℕ → List ℕ
 spelled_by path [] = []
 spelled_by path (b ∷ bs) = spelled_byte path b ++ spelled_by path bs
 
--- a word of a user, and a name that stands in a path
+-- a word of a user, and a name that is in a path
 abbrev pub spelled : List ℕ → List ℕ
 spelled word = spelled_by false word
 

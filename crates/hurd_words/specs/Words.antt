@@ -35,7 +35,7 @@ text_after true (b ∷ bs) = onto (escape_code b) (text_after false bs)
 abbrev pub text_of : List ℕ → Option (List ℕ)
 text_of word = text_after false word
 
--- a byte that is not printable ASCII stands in it
+-- a byte that is not printable ASCII is in it
 abbrev pub has_hidden_byte : List ℕ → Bool
 has_hidden_byte word = list_any is_hidden word
 
@@ -43,7 +43,7 @@ has_hidden_byte word = list_any is_hidden word
 abbrev pub Spelling : Type 0
 Spelling = List ℕ → Option (List ℕ)
 
--- not a word: a byte that is not printable ASCII stands in it, or it is badly spelled
+-- not a word: a byte that is not printable ASCII is in it, or it is badly spelled
 abbrev pub is_bad_word : Spelling → List ℕ → Bool
 is_bad_word spelling word = has_hidden_byte word || is_none (spelling word)
 

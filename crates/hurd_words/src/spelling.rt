@@ -59,7 +59,7 @@ pub fn push_spelled(text: &mut Vec<u8>, word: &[u8]) -> Result<(), AllocError>
     push_bytes(text, false, word)
 }
 
-/// Adds a name that stands in a path: slashes by escapes too. Fails only if memory runs out.
+/// Adds a name that is in a path: slashes by escapes too. Fails only if memory runs out.
 pub fn push_spelled_name(text: &mut Vec<u8>, name: &[u8]) -> Result<(), AllocError>
     ensures { OnOk result (text.new.items ≡ text.old.items ++ spelled_name name.now) }
 {

@@ -18,7 +18,7 @@ insert_cases m b v q x h = elim (same_or_apart q b) [
   | inr apart ↦ inr (sym (get_apart m b v q apart) ∙ h)
 ]
 
--- what stands there stays where the same is put in
+-- what is there stays where the same is put in
 insert_kept : {X : Type 0} (m : NameMap X) (b : Name) (v : X) (q : Name) → fin.get m q ≡ Some v → fin.get (fin.insert m b v) q ≡ Some v
 insert_kept m b v q h = elim (same_or_apart q b) [ inl e ↦ rw e (get_here m b v) | inr apart ↦ get_apart m b v q apart ∙ h ]
 

@@ -23,7 +23,7 @@ hello-within text short =
     let long = length-append (codes "--contents=") text in
     two-within (codes "/hurd/hello") (codes "--contents=" ++ text) (omega (arith, long))
 
--- a text that is no longer than words can say, or a refusal that isn't want of memory
+-- a text that is no longer than words can say, or a refusal that isn't ENOMEM
 abbrev IsShort : Result (Option (List ℕ)) Errno → Type 0
 IsShort (Ok None) = Unit {0}
 IsShort (Ok (Some text)) = length text ≤ most_text

@@ -10,7 +10,7 @@ use Rattle.hurd_trans_iface.specs.Still.{StillKind, still}
 use Rattle.hurd_trans_iface.specs.Kinds.Firmlink.{is_firm}
 use Rattle.hurd_trans_iface.specs.Words.{is_within_limits}
 
--- several words as one text: a byte 0 ends each word, and in a word a byte 1 stands before each 0 and 1
+-- several words as one text: a byte 0 ends each word, and in a word a byte 1 comes before each 0 and 1
 
 abbrev pub marked : List ℕ → List ℕ
 marked [] = []
