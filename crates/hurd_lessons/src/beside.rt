@@ -391,7 +391,25 @@ fn or_unnamed(mut text: Vec<u8>, who: &[u8]) -> Result<Vec<u8>, AllocError>
     Ok(text)
 }
 
-/// What differs between two views, in lines; what stands for a row that a view doesn't have is given.
+/// What differs between two views, in lines.
+fn tell_sides(
+    alloc: Global,
+    who: &[u8],
+    first: &Side<'_>,
+    second: &Side<'_>,
+) -> Result<Bytes, AllocError>
+    requires first { IsSide first.now.view.now first.now.things.now.entries first.now.nothing.now }
+    requires second { IsSide second.now.view.now second.now.things.now.entries second.now.nothing.now }
+    ensures { IfOk result (λ text. Beside who.now first.now.view.now second.now.view.now text) }
+{
+    let mut text = Vec::new(alloc);
+    add_all_second(alloc, &mut text, who, first, second)?;
+    add_all_first(alloc, &mut text, who, first, second)?;
+    add_tasks(alloc, &mut text, who, first.view, second.view)?;
+    Ok(Bytes::new(or_unnamed(text, who)?))
+}
+
+/// What differs between two views, in lines; a row that serves if a view has none is given.
 fn tell_by(
     alloc: Global,
     who: &[u8],
@@ -414,11 +432,7 @@ fn tell_by(
         things: &others,
         nothing,
     };
-    let mut text = Vec::new(alloc);
-    add_all_second(alloc, &mut text, who, &one, &two)?;
-    add_all_first(alloc, &mut text, who, &one, &two)?;
-    add_tasks(alloc, &mut text, who, first, second)?;
-    Ok(Bytes::new(or_unnamed(text, who)?))
+    tell_sides(alloc, who, &one, &two)
 }
 
 /// What differs between the views of some tasks in two scripts, in lines that begin with two spaces and these words, as `alice sees`: the things of the second,

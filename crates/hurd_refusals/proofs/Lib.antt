@@ -6,5 +6,6 @@ pub mod Opens
 pub mod Entries
 pub mod Walks
 pub mod Targets
+pub mod Links
 pub mod Servers
 pub mod Named

@@ -11,12 +11,11 @@ use Rattle.hurd_lookup.specs.Lookup.{Makes, NewPort, Opens, Outcome, Retries, St
 use Rattle.hurd_lookup.specs.Resolve.{Leg, awake, from_top, landed, leg_at, leg_by, leg_request, legs, most_looks, path_end, resolve, resolve_all}
 use Rattle.hurd_lookup.specs.Nested.{first_among, most_asked, needed, or_needed}
 use Rattle.hurd_lookup.specs.Seeking.{plan_lookup, seeking_asks, sooner}
-use Rattle.hurd_lookup.specs.Getroot.{entrance_asks, getroot_asks, plan_getroot, root_request}
 use Rattle.hurd_refusals.specs.Errors.{is_among}
 use Rattle.hurd_refusals.proofs.In.{Among, In, answered_among, are_among, done_among, err_in, first_in, given_in, lead_err, lead_first, lead_given, lead_ok, lead_on, more_in, ok_in, on_in, within}
 use Rattle.hurd_refusals.proofs.Asked.{io_in}
-use Rattle.hurd_refusals.proofs.Rooms.{control_in-all, room_in}
-use Rattle.hurd_refusals.proofs.Walks.{Suits, cross_in, walk_errors, walk_in}
+use Rattle.hurd_refusals.proofs.Rooms.{room_in}
+use Rattle.hurd_refusals.proofs.Walks.{Suits, walk_errors, walk_in}
 
 -- by which errors targets are refused
 abbrev pub target_errors : List Errno
@@ -99,7 +98,7 @@ ending_in has w t (Opens e) = room_in has w t _
 ending_in has w t (Makes s f ids ways) = room_in has w t _
 
 -- What is found is told, and numbered.
-finding_among : {es : List Errno} → are_among (ESRCH ∷ EOVERFLOW ∷ []) es ≡ true → (w : World) (t : ℕ) (flags : OpenFlags) (found : Result Outcome Errno) → In es found → Among es (finding w t flags found).reply
+pub finding_among : {es : List Errno} → are_among (ESRCH ∷ EOVERFLOW ∷ []) es ≡ true → (w : World) (t : ℕ) (flags : OpenFlags) (found : Result Outcome Errno) → In es found → Among es (finding w t flags found).reply
 finding_among has w t flags found p =
     answered_among (whole_asks w t found) _ (first_in _ _ p (λ o e. first_in _ _ (ending_in has w t o) (λ x ex. ok_in))) (λ l is. done_among refl)
 
@@ -112,21 +111,3 @@ lookup_among w t p path flags mode = finding_among refl w t flags (seeking_asks 
     given_in _ _ _ refl (λ short.
     walk_in w (request path flags mode) (record { base = refl; exclusive = λ is. refl; writes = λ is. refl; creates = λ is. refl }) _ q.node _)))) (λ o e.
     sooner_in w t o))
-
-abbrev pub getroot_errors : List Errno
-getroot_errors = EBADF ∷ EDIED ∷ ENAMETOOLONG ∷ ENOTDIR ∷ ELOOP ∷ EISDIR ∷ EROFS ∷ EACCES ∷ ESRCH ∷ EOVERFLOW ∷ []
-
--- A server is entered from a directory.
-entrance_in : (w : World) (t c dir : ℕ) → In getroot_errors (entrance_asks w t c dir)
-entrance_in w t c dir =
-    first_in _ _ (control_in-all refl w t c) (λ s es.
-    first_in _ _ (io_in refl w t dir) (λ q eq.
-    on_in _ _ _ refl (λ i ei.
-    on_in _ _ _ refl (λ h eh.
-    given_in _ _ _ refl (λ is.
-    on_in _ _ _ refl (λ x ex. ok_in))))))
-
--- fsys_getroot: a link may be too long, as far as a sound world says.
-pub getroot_among : (w : World) (t c dir : ℕ) (flags : OpenFlags) → Among getroot_errors (plan_getroot w t c dir flags).reply
-getroot_among w t c dir flags = finding_among refl w t flags (getroot_asks w t c dir (root_request flags)) (
-    first_in _ _ (entrance_in w t c dir) (λ e is. cross_in w (root_request flags) refl (λ writes. refl) e.authority e.start e.root []))

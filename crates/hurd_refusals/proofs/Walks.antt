@@ -63,7 +63,7 @@ module _ (w : World) {es : List Errno} (r : Asked) (has : are_among cross_errors
       given_in _ _ _ (within EACCES cross_errors es has refl) (λ may. ok_in)))))
 
   -- A server is entered.
-  enter_in : (q : Authority) (d root : Name) (names : List (List ℕ)) → In es (enter w q r d root names)
+  pub enter_in : (q : Authority) (d root : Name) (names : List (List ℕ)) → In es (enter w q r d root names)
   enter_in q d root names = given_in _ _ _ (within ELOOP cross_errors es has refl) (λ few. if_in (is_last names) _ _ (λ last. open_in q.ids root _) (λ more. ok_in))
 
   -- A link is followed.
@@ -71,7 +71,7 @@ module _ (w : World) {es : List Errno} (r : Asked) (has : are_among cross_errors
   follow_in absolute q d text names = given_in _ _ _ (within ENAMETOOLONG cross_errors es has refl) (λ short. ok_in)
 
   -- A firm link leads on.
-  hold_in : (q : Authority) (d : Name) (o : Option Name) (names : List (List ℕ)) → In es (hold_on w q r d o names)
+  pub hold_in : (q : Authority) (d : Name) (o : Option Name) (names : List (List ℕ)) → In es (hold_on w q r d o names)
   hold_in q d None names = err_in (within EDIED cross_errors es has refl)
   hold_in q d (Some n) names = on_in _ _ _ (within EDIED cross_errors es has refl) (λ h eh. given_in _ _ _ (within ELOOP cross_errors es has refl) (λ few. ok_in))
 

@@ -1,18 +1,22 @@
 -- By which errors each call may be refused. ENOMEM is none of them: the written machine never runs out of memory.
-use Rattle.std.specs.Prelude.{◌≡◌, ◌||◌, ◌==◌, ℕ, Bool, true, false, List, [], ◌∷◌, Option, Some, None}
+use Rattle.std.specs.Prelude.{◌≡◌, ◌⊎◌, ◌||◌, ◌==◌, ℕ, Bool, true, false, List, [], ◌∷◌, Option, Some, None, length, nat_le}
 use Rattle.hurd_creds.specs.Errors.{number_of}
 use Rattle.hurd_creds.specs.declared.errno.Errno.{Errno}
 use Rattle.hurd_creds.specs.declared.errno.Errno.TheVariants.{EPERM, ENOENT, EIO, EBADF, EACCES, EBUSY, EEXIST, EXDEV, ENOTDIR, EISDIR, EINVAL, EFBIG, EROFS, EPIPE, EWOULDBLOCK, ELOOP, ENAMETOOLONG, ENOTEMPTY, EOPNOTSUPP, EDIED, ENXIO, ESRCH, EOVERFLOW, ENOSPC}
+use Rattle.hurd_creds.specs.declared.name.Name.{Name}
+use Rattle.hurd_creds.specs.Limits.{most_path}
+use Rattle.hurd_trans_iface.specs.Meaning.{Begins, Meaning, root_of}
+use Rattle.hurd_trans_iface.specs.Texts.{is_link}
+use Rattle.hurd_nodes.specs.Shown.{ServerInfo}
 use Rattle.hurd_machine.specs.Calls.{Call, Reply}
 use Rattle.hurd_machine.specs.declared.call.Call.TheVariants.{Plain, FileSetTranslator, FsysStartup}
 use Rattle.hurd_machine.specs.declared.call.PlainCall.TheVariants.{PortDeallocate, PortSend, PortReceive, AuthMakeauth, DirLookup, IoRead, IoWrite, IoSeek, IoStat, IoReadable, IoGetOpenmodes, IoSetAllOpenmodes, IoDuplicate, IoReauthenticate, IoRestrictAuth, IoIdentity, FileSetSize, FileChmod, FileChown, FileCheckAccess, FileGetTranslator, FileGetTranslatorCntl, FileGetcontrol, StartFailed, FsysGetroot, FsysGoaway, FsysGetOptions, FsysSetOptions, DirReaddir, DirMkdir, DirRmdir, DirUnlink, DirLink, DirMkfile, DirRename}
 use Rattle.hurd_machine.specs.declared.call.Reply.TheVariants.{Refused, Back}
-use Rattle.hurd_machine.specs.World.{World}
+use Rattle.hurd_machine.specs.World.{World, info_at}
 use Rattle.hurd_machine.specs.Sound.{Sound}
 use Rattle.hurd_laws.specs.Step.{reply_of}
 
--- the errors of each call. Of a call that names new things EOVERFLOW is one: its numbers are at their greatest. ENAMETOOLONG is one of fsys_getroot: a sound world may
--- have a link whose text is longer than a path, though no program makes one
+-- the errors of each call. A call that names new things has EOVERFLOW: its numbers are at their greatest
 abbrev pub errors_of : Call → List Errno
 errors_of (Plain (PortDeallocate p)) = EBADF ∷ ESRCH ∷ []
 errors_of (Plain (PortSend p q)) = EBADF ∷ ESRCH ∷ []
@@ -39,7 +43,7 @@ errors_of (Plain (FileGetTranslatorCntl p)) = EBADF ∷ EDIED ∷ EPERM ∷ ENXI
 errors_of (Plain (FileGetcontrol p)) = EBADF ∷ EDIED ∷ EPERM ∷ ESRCH ∷ EOVERFLOW ∷ []
 errors_of (FsysStartup server) = EDIED ∷ EBUSY ∷ ENAMETOOLONG ∷ ENOTDIR ∷ EACCES ∷ ENOENT ∷ ELOOP ∷ ESRCH ∷ EOVERFLOW ∷ []
 errors_of (Plain StartFailed) = ESRCH ∷ []
-errors_of (Plain (FsysGetroot control dir flags)) = EBADF ∷ EDIED ∷ ENAMETOOLONG ∷ ENOTDIR ∷ ELOOP ∷ EISDIR ∷ EROFS ∷ EACCES ∷ ESRCH ∷ EOVERFLOW ∷ []
+errors_of (Plain (FsysGetroot control dir flags)) = EBADF ∷ EDIED ∷ ENOTDIR ∷ ELOOP ∷ EISDIR ∷ EROFS ∷ EACCES ∷ ESRCH ∷ EOVERFLOW ∷ []
 errors_of (Plain (FsysGoaway control flags)) = EBADF ∷ EDIED ∷ EBUSY ∷ ESRCH ∷ []
 errors_of (Plain (FsysGetOptions control)) = EBADF ∷ EDIED ∷ ESRCH ∷ []
 errors_of (Plain (FsysSetOptions control words)) = EBADF ∷ EDIED ∷ EINVAL ∷ ESRCH ∷ []
@@ -67,6 +71,18 @@ refused_by (Refused e) = Some e
 refused_by (Back e m) = Some e
 refused_by r = None
 
--- in a sound world a call is refused by one of its errors, or not at all
+-- the text of a link is longer than a path, where this kind and text are a link's
+abbrev pub IsLongLink : ServerInfo → Type 0
+IsLongLink i = (is_link (root_of i.kind i.text).crossing ≡ true) × (nat_le (length i.text) most_path ≡ false)
+
+-- the world has a link whose text is longer than a path
+abbrev pub HasLongLink : World → Type 0
+HasLongLink w = (n : Name) × (i : ServerInfo) × (info_at w n ≡ Some i) × IsLongLink i
+
+-- in a sound world a call is refused by one of its errors, or not at all; or by ENAMETOOLONG, if the world has a link whose text is longer than a path
 abbrev pub RefusedByName : Type 0
-RefusedByName = (w : World) (t : ℕ) (c : Call) (e : Errno) → Sound w → refused_by (reply_of w t c) ≡ Some e → is_error_of c e ≡ true
+RefusedByName = (w : World) (t : ℕ) (c : Call) (e : Errno) → Sound w → refused_by (reply_of w t c) ≡ Some e → (is_error_of c e ≡ true) ⊎ ((e ≡ ENAMETOOLONG) × HasLongLink w)
+
+-- no words make a link whose text is longer than a path
+abbrev pub LinksAreShort : Type 0
+LinksAreShort = (m : Meaning) → Begins m → is_link (root_of m.kind m.text).crossing ≡ true → nat_le (length m.text) most_path ≡ true

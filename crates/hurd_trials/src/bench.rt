@@ -23,6 +23,7 @@ use arguments::{Asked, Kind};
 use fault::Fault;
 use files::Files;
 use hurd_creds::Errno;
+use hurd_dialogue::boxed;
 use hurd_kinds::{ServerBox, empty_tree};
 use hurd_small::FixedServer;
 use hurd_trans_iface::{Server, Words};
@@ -152,16 +153,11 @@ fn send_away<S: Server>(
     row.print(rt, asked.timed)
 }
 
-/// A tree in a box.
-fn boxed<S: Server>(alloc: Global, tree: Tree<S>) -> Result<Box<Tree<S>>, Errno> {
-    Box::new(alloc, tree).map_err(|_| Errno::ENOMEM)
-}
-
 /// Begins a tree, and measures the work in it.
 #[tactic(auto, unfolding(hurd_kinds::specs::Boxes::box_meaning))]
 fn measure(rt: &(impl Clock + Print), alloc: Global, asked: Asked) -> Result<(), Fault> {
     let boot = ServerBox::Tmpfs(empty_tree(alloc).map_err(Errno::from)?);
-    let mut tree = boxed(alloc, Tree::begin(alloc, boot)?)?;
+    let mut tree = boxed(alloc, Tree::begin(alloc, boot)?).map_err(Errno::from)?;
     measure_in(rt, alloc, &mut tree, asked)
 }
 

@@ -8,7 +8,7 @@ use Rattle.hurd_creds.specs.Limits.{most_tasks}
 use Rattle.hurd_ports.specs.Steps.{begun_at, named, starting_at}
 use Rattle.hurd_ports.proofs.TaskLaws.{edit-edit, set-here}
 use Rattle.hurd_world.specs.Boot.{boot_task, boot_tasks, boot_opens, boot_ports, closed_open, few_of}
-use Rattle.hurd_world.specs.BootPort.{with_boot_port}
+use Rattle.hurd_world.specs.BootPort.{ids_in, with_boot_port}
 
 -- the tasks from number k on, of which the first t have their ports
 abbrev pub half_begun : ℕ → ℕ → List IdSets → List Task
@@ -122,3 +122,11 @@ tables_refused tasks e = go (nat_le (length tasks) most_tasks)
     go true (inr lacks) = inr (lacks.0, refl)
     go false (inl is) = inl (let same : EINVAL ≡ e = cc (is) in ap Err same)
     go false (inr lacks) = absurd (cc (lacks.1))
+
+-- the ids of tasks that begin are those that they were given
+ids_begun : (tasks : List IdSets) → ids_in (starting_at tasks 1) ≡ tasks
+ids_begun [] = refl
+ids_begun (ids ∷ tasks) = ap (λ (more : List IdSets). ids ∷ more) (ids_begun tasks)
+
+pub ids_given : (tasks : List IdSets) (h : Tables) → begun_at tasks 1 ≡ Ok h → ids_in h.state ≡ tasks
+ids_given tasks h is = ap (λ (g : Tables). ids_in g.state) (tables_begun tasks h is).1 ∙ ids_begun tasks

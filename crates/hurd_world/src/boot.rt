@@ -2,7 +2,7 @@
 ghost use Rattle.std.specs.Prelude.{◌≡◌, ◌⊎◌, IfOk, IfErr, IsOk, Ok, Err};
 ghost use Rattle.hurd_ports.specs.Tables.{room_of};
 ghost use Rattle.hurd_world.specs.Boot.{boot_ports, few_of, is_aimed};
-ghost use Rattle.hurd_world.specs.BootPort.{with_boot_port};
+ghost use Rattle.hurd_world.specs.BootPort.{IsNew, ids_in, with_boot_port};
 
 use hurd_creds::{Errno, Ids, OpenFlags, TaskId};
 use hurd_nodes::BOOT_NAME;
@@ -28,11 +28,21 @@ pub(crate) fn first_ports(alloc: Global, tasks: Vec<Ids>) -> Result<Ports, Errno
     ensures err { let asked = few_of tasks.items in IfErr result (λ e. (asked ≡ Err e) ⊎ ((e ≡ Errno.ENOMEM) × IsOk asked)) }
 {
     let mut ports = Ports::starting_at(alloc, tasks, 1)?;
-    for task in 0..ports.task_count() as u32 {
-        add_boot_port(alloc, &mut ports, TaskId(task))?;
-        add_boot_port(alloc, &mut ports, TaskId(task))?;
-    }
+    add_boot_ports(alloc, &mut ports)?;
     Ok(ports)
+}
+
+/// Gives each task, in tables that have no port yet, its two ports on the boot root. `ENOMEM`.
+fn add_boot_ports(alloc: Global, ports: &mut Ports) -> Result<(), Errno>
+    requires { IsNew ports.old.state }
+    ensures ok { IfOk result (λ u. ports.new.state ≡ boot_ports (ids_in ports.old.state)) }
+    ensures err { IfErr result (λ e. e ≡ Errno.ENOMEM) }
+{
+    for task in 0..ports.task_count() as u32 {
+        add_boot_port(alloc, ports, TaskId(task))?;
+        add_boot_port(alloc, ports, TaskId(task))?;
+    }
+    Ok(())
 }
 
 /// Gives a task one port more on the boot root, with the task's ids and no modes. `ENOMEM`.
