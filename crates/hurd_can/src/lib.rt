@@ -1,0 +1,13 @@
+//! Who could help some tasks to see a part of a world.
+//!
+//! What a set of tasks can ever come to see of what there is now is settled by one look: a part of an old thing can come to be seen by calls of theirs exactly if
+//! they see it together (`comes_to_see` in `hurd_laws`). So a helper is enough if he and they see the part together now. `helpers_of` finds, for each part, all others
+//! whose help is enough, and all pairs of others of whom neither is enough alone.
+#![tactic(auto)]
+
+mod helped;
+mod looking;
+mod noting;
+
+pub use helped::{Helped, Pair};
+pub use looking::helpers_of;
