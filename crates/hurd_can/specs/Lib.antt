@@ -1,2 +1,5 @@
 pub mod Help
 pub mod Noting
+pub mod Listed
+pub mod Remembered
+pub mod Recalling

@@ -96,8 +96,20 @@ impl Helped {
         Ok(())
     }
 
+    /// Whether a task is noted as one that saw it before.
+    pub fn remembers(&self, task: TaskId) -> bool
+        ensures { result ≡ among self.now.before task.0 }
+    {
+        for own in &self.before {
+            if own.0 == task.0 {
+                return true;
+            }
+        }
+        false
+    }
+
     /// Whether a task alone could help.
-    fn has(&self, task: TaskId) -> bool
+    pub fn has(&self, task: TaskId) -> bool
         ensures { result ≡ among self.now.ones task.0 }
     {
         for one in &self.ones {

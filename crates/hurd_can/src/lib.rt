@@ -6,8 +6,12 @@
 #![tactic(auto)]
 
 mod helped;
+mod listing;
 mod looking;
 mod noting;
+mod remembering;
 
 pub use helped::{Helped, Pair};
+pub use listing::unseen;
 pub use looking::helpers_of;
+pub use remembering::remember;
