@@ -8,7 +8,8 @@ use Rattle.hurd_creds.specs.declared.open_flags.OpenFlags.{OpenFlags}
 use Rattle.hurd_creds.specs.declared.errno.Errno.{Errno}
 use Rattle.hurd_creds.specs.declared.errno.Errno.TheVariants.{EBADF, EACCES, ENOTDIR, EISDIR, EROFS, ELOOP, ENAMETOOLONG, EDIED, ESRCH, EOVERFLOW}
 use Rattle.hurd_trans_iface.specs.Kinds.Symlink.{is_target}
-use Rattle.hurd_trans_iface.specs.Meaning.{Begins, ServerKind, behaviour_of, root_of}
+use Rattle.hurd_trans_iface.specs.Meaning.{Begins, behaviour_of, root_of}
+use Rattle.hurd_trans_iface.specs.declared.begun.ServerKind.{ServerKind}
 use Rattle.hurd_trans_iface.specs.declared.begun.ServerKind.TheVariants as kind
 use Rattle.hurd_trans_iface.specs.Texts.{is_link}
 use Rattle.hurd_trans_iface.proofs.Beginnings.{begun-made}
@@ -17,10 +18,10 @@ use Rattle.hurd_trans_iface.specs.declared.root.Crossing.{Crossing}
 use Rattle.hurd_trans_iface.specs.declared.root.Crossing.TheVariants as crossing
 use Rattle.hurd_machine.proofs.Common.{Meaning, Name, ServerInfo, World, answered, first, given, header_at, info_at}
 use Rattle.hurd_machine.proofs.Asks.{on_ok}
-use Rattle.hurd_lookup.specs.Lookup.{Authority, Outcome, crossing as cross_by, enter, finding, follow, link_retry, root_asks}
+use Rattle.hurd_lookup.specs.Lookup.{Authority, Outcome, crossing as cross_by, enter, finding, follow, hold_on, link_retry, root_asks}
 use Rattle.hurd_lookup.specs.Getroot.{entrance_asks, getroot_asks, plan_getroot, root_request}
 use Rattle.hurd_refusals.specs.Errors.{HasLongLink, LinksAreShort, is_among, refused_by}
-use Rattle.hurd_refusals.proofs.In.{In, and_other, first_in, given_in, ok_in, on_in}
+use Rattle.hurd_refusals.proofs.In.{Among, In, and_other, first_in, given_in, ok_in, on_in}
 use Rattle.hurd_refusals.proofs.Asked.{io_in}
 use Rattle.hurd_refusals.proofs.Rooms.{control_in-all}
 use Rattle.hurd_refusals.proofs.Targets.{finding_among}
@@ -48,32 +49,42 @@ entrance_in w t c dir =
     on_in _ _ _ refl (λ x ex. ok_in))))))
 
 -- What follows from an answer is refused so, if the answer is.
-first_or : {A B : Type 0} {w : World} (x : Result A Errno) (k : A → Result B Errno) → In getroot_errors x → ((a : A) → x ≡ Ok a → Refuses w (k a)) → Refuses w (first x k)
+first_or : {A B : Type 0} (w : World) (x : Result A Errno) (k : A → Result B Errno) → In getroot_errors x → ((a : A) → x ≡ Ok a → Refuses w (k a)) → Refuses w (first x k)
 unfolding first
-first_or (Err d) k out h e is = let same : d ≡ e = cc in inl (out.by e (ap Err same))
-first_or (Ok a) k out h e is = h a refl e is
+first_or w (Err d) k out h e is = let same : d ≡ e = cc in inl (out.by e (ap Err same))
+first_or w (Ok a) k out h e is = h a refl e is
+
+same_error : {A : Type 0} (e : Errno) → (let refused : Result A Errno = Err ENAMETOOLONG in refused) ≡ Err e → e ≡ ENAMETOOLONG
+same_error e h = let same : ENAMETOOLONG ≡ e = cc in sym same
 
 -- A path that a link leads along is its text, if no names follow.
 follow_or : (w : World) (root : Name) (i : ServerInfo) → info_at w root ≡ Some i → (absolute : Bool) → (root_of i.kind i.text).crossing ≡ crossing.Link absolute
-    → (q : Authority) (d : Name) (flags : OpenFlags) → Refuses w (follow absolute q d (root_request flags) i.text [])
+    → (q : Authority) (d : Name) (flags : OpenFlags) → Refuses w (follow absolute q (root_request flags) d i.text [])
+unfolding given
 follow_or w root i is absolute link q d flags = go (nat_le (length i.text) most_path) refl
   where
     go : (b : Bool) → nat_le (length i.text) most_path ≡ b → (e : Errno) → given ENAMETOOLONG b (Ok (link_retry absolute q d i.text)) ≡ Err e → Or w getroot_errors e
-    unfolding given
     go true fits e h = absurd (cc)
-    go false fits e h = inr (let same : ENAMETOOLONG ≡ e = cc in sym same, root, i, is, ap is_link link, fits)
+    go false fits e h = inr (same_error e h, (root, i, is, (ap is_link link, fits)))
+
+-- A root is entered, or leads on to a target.
+entered_in : (w : World) (q : Authority) (d root : Name) (flags : OpenFlags) → In getroot_errors (enter w q (root_request flags) d root [])
+entered_in w q d root flags = enter_in w (root_request flags) refl (λ writes. refl) q d root []
+
+held_in : (w : World) (q : Authority) (d : Name) (flags : OpenFlags) (o : Option Name) → In getroot_errors (hold_on w q (root_request flags) d o [])
+held_in w q d flags o = hold_in w (root_request flags) refl (λ writes. refl) q d o []
 
 -- The root of a server is entered, or leads on.
 crossing_or : (w : World) (root : Name) (i : ServerInfo) → info_at w root ≡ Some i → (c : Crossing) → (root_of i.kind i.text).crossing ≡ c
     → (q : Authority) (d : Name) (flags : OpenFlags) → Refuses w (cross_by w c q (root_request flags) d root i [])
-crossing_or w root i is crossing.Plain at q d flags e h = inl ((enter_in w (root_request flags) refl (λ writes. refl) q d root []).by e h)
-crossing_or w root i is (crossing.Link absolute) at q d flags = go (asks flags NOLINK)
+crossing_or w root i is crossing.Plain at q d flags e h = inl ((entered_in w q d root flags).by e h)
+crossing_or w root i is (crossing.Link absolute) at q d flags e h = go (asks flags NOLINK) e h
   where
-    go : (b : Bool) → (e : Errno) → (if true && b then enter w q (root_request flags) d root [] else follow absolute q d (root_request flags) i.text []) ≡ Err e → Or w getroot_errors e
-    go true e h = inl ((enter_in w (root_request flags) refl (λ writes. refl) q d root []).by e h)
+    go : (b : Bool) → (e : Errno) → (if true && b then enter w q (root_request flags) d root [] else follow absolute q (root_request flags) d i.text []) ≡ Err e → Or w getroot_errors e
+    go true e h = inl ((entered_in w q d root flags).by e h)
     go false e h = follow_or w root i is absolute at q d flags e h
-crossing_or w root i is crossing.Firm at q d flags e h = inl ((hold_in w (root_request flags) refl (λ writes. refl) q d (slice_get i.targets 0) []).by e h)
-crossing_or w root i is crossing.Union at q d flags e h = inl ((enter_in w (root_request flags) refl (λ writes. refl) q d root []).by e h)
+crossing_or w root i is crossing.Firm at q d flags e h = inl ((held_in w q d flags (slice_get i.targets 0)).by e h)
+crossing_or w root i is crossing.Union at q d flags e h = inl ((entered_in w q d root flags).by e h)
 
 -- A root that was asked for is of that server.
 root_found : (w : World) (root : Name) (i : ServerInfo) → root_asks w root ≡ Ok i → info_at w root ≡ Some i
@@ -85,17 +96,20 @@ root_found w root i h =
 
 getroot_refuses : (w : World) (t c dir : ℕ) (flags : OpenFlags) → Refuses w (getroot_asks w t c dir (root_request flags))
 getroot_refuses w t c dir flags =
-    first_or _ _ (entrance_in w t c dir) (λ a is.
-    first_or _ _ (on_in _ _ _ refl (λ h eh. on_in _ _ _ refl (λ i ei. ok_in))) (λ i found.
+    first_or w _ _ (entrance_in w t c dir) (λ a is.
+    first_or w _ _ (on_in _ _ _ refl (λ h eh. on_in _ _ _ refl (λ i ei. ok_in))) (λ i found.
     crossing_or w a.root i (root_found w a.root i found) (root_of i.kind i.text).crossing refl a.authority a.start flags))
 
 -- fsys_getroot
 pub getroot_or : (w : World) (t c dir : ℕ) (flags : OpenFlags) (e : Errno) → refused_by (plan_getroot w t c dir flags).reply ≡ Some e → Or w getroot_errors e
+unfolding answered first
 getroot_or w t c dir flags = go (getroot_asks w t c dir (root_request flags)) refl
   where
+    found : (o : Outcome) → Among getroot_errors (finding w t flags (Ok o)).reply
+    found o = finding_among refl w t flags (Ok o) ok_in
+
     go : (r : Result Outcome Errno) → getroot_asks w t c dir (root_request flags) ≡ r → (e : Errno) → refused_by (finding w t flags r).reply ≡ Some e → Or w getroot_errors e
-    unfolding answered first
-    go (Ok o) is e h = inl ((finding_among refl w t flags (Ok o) ok_in).by e h)
+    go (Ok o) is e h = inl ((found o).by e h)
     go (Err d) is e h = getroot_refuses w t c dir flags e (is ∙ (let same : d ≡ e = cc in ap Err same))
 
 -- No words make a link whose text is longer than a path.

@@ -44,43 +44,52 @@ not_one b c h = and_one b c (not_not (b && c) h)
 not_other : (b c : Bool) → not (b && c) ≡ false → c ≡ true
 not_other b c h = and_other b c (not_not (b && c) h)
 
--- by which errors the crossing of a server is refused, whatever is asked for
+-- by which errors a node is refused that is opened, or led on to, whatever is asked for
+abbrev pub enter_errors : List Errno
+enter_errors = EDIED ∷ ENOTDIR ∷ EACCES ∷ ELOOP ∷ []
+
+-- and a server that is crossed
 abbrev pub cross_errors : List Errno
-cross_errors = EDIED ∷ ENAMETOOLONG ∷ ENOTDIR ∷ EACCES ∷ ELOOP ∷ []
+cross_errors = ENAMETOOLONG ∷ enter_errors
 
 -- and what is to be written
 abbrev pub write_errors : List Errno
 write_errors = EISDIR ∷ EROFS ∷ []
 
-module _ (w : World) {es : List Errno} (r : Asked) (has : are_among cross_errors es ≡ true) (writes : asks r.flags WRITE ≡ true → are_among write_errors es ≡ true) where
+module _ (w : World) {es : List Errno} (r : Asked) (has : are_among enter_errors es ≡ true) (writes : asks r.flags WRITE ≡ true → are_among write_errors es ≡ true) where
   -- The last node is opened.
   pub open_in : (ids : IdSets) (n : Name) (ways : List Parent) → In es (open_asks w ids r n ways)
   open_in ids n ways =
-      on_in _ _ _ (within EDIED cross_errors es has refl) (λ h eh.
-      given_in _ _ _ (within ENOTDIR cross_errors es has refl) (λ dir.
+      on_in _ _ _ (within EDIED enter_errors es has refl) (λ h eh.
+      given_in _ _ _ (within ENOTDIR enter_errors es has refl) (λ dir.
       given_if _ _ _ (λ out. within EISDIR write_errors es (writes (not_other (is_dir h.kind) (asks r.flags WRITE) out)) refl) (λ file.
       given_if _ _ _ (λ out. within EROFS write_errors es (writes (not_one (asks r.flags WRITE) (only_reads (info_at w n)) out)) refl) (λ more.
-      given_in _ _ _ (within EACCES cross_errors es has refl) (λ may. ok_in)))))
+      given_in _ _ _ (within EACCES enter_errors es has refl) (λ may. ok_in)))))
 
   -- A server is entered.
   pub enter_in : (q : Authority) (d root : Name) (names : List (List ℕ)) → In es (enter w q r d root names)
-  enter_in q d root names = given_in _ _ _ (within ELOOP cross_errors es has refl) (λ few. if_in (is_last names) _ _ (λ last. open_in q.ids root _) (λ more. ok_in))
+  enter_in q d root names = given_in _ _ _ (within ELOOP enter_errors es has refl) (λ few. if_in (is_last names) _ _ (λ last. open_in q.ids root _) (λ more. ok_in))
 
+  -- A firm link leads on.
+  pub hold_in : (q : Authority) (d : Name) (o : Option Name) (names : List (List ℕ)) → In es (hold_on w q r d o names)
+  hold_in q d None names = err_in (within EDIED enter_errors es has refl)
+  hold_in q d (Some n) names = on_in _ _ _ (within EDIED enter_errors es has refl) (λ h eh. given_in _ _ _ (within ELOOP enter_errors es has refl) (λ few. ok_in))
+
+-- a server that is crossed may be entered
+entering : (es : List Errno) → are_among cross_errors es ≡ true → are_among enter_errors es ≡ true
+entering es has = and_other (is_among ENAMETOOLONG es) _ has
+
+module _ (w : World) {es : List Errno} (r : Asked) (has : are_among cross_errors es ≡ true) (writes : asks r.flags WRITE ≡ true → are_among write_errors es ≡ true) where
   -- A link is followed.
   follow_in : (absolute : Bool) (q : Authority) (d : Name) (text : List ℕ) (names : List (List ℕ)) → In es (follow absolute q r d text names)
   follow_in absolute q d text names = given_in _ _ _ (within ENAMETOOLONG cross_errors es has refl) (λ short. ok_in)
 
-  -- A firm link leads on.
-  pub hold_in : (q : Authority) (d : Name) (o : Option Name) (names : List (List ℕ)) → In es (hold_on w q r d o names)
-  hold_in q d None names = err_in (within EDIED cross_errors es has refl)
-  hold_in q d (Some n) names = on_in _ _ _ (within EDIED cross_errors es has refl) (λ h eh. given_in _ _ _ (within ELOOP cross_errors es has refl) (λ few. ok_in))
-
   -- Each root is crossed, or one of these is the error.
   crossing_in : (c : Crossing) (q : Authority) (d root : Name) (i : ServerInfo) (names : List (List ℕ)) → In es (crossing w c q r d root i names)
-  crossing_in crossing.Plain q d root i names = enter_in q d root names
-  crossing_in (crossing.Link absolute) q d root i names = if_in (is_last names && asks r.flags NOLINK) _ _ (λ last. enter_in q d root names) (λ on. follow_in absolute q d i.text names)
-  crossing_in crossing.Firm q d root i names = hold_in q d (slice_get i.targets 0) names
-  crossing_in crossing.Union q d root i names = enter_in q d root names
+  crossing_in crossing.Plain q d root i names = enter_in w r (entering es has) writes q d root names
+  crossing_in (crossing.Link absolute) q d root i names = if_in (is_last names && asks r.flags NOLINK) _ _ (λ last. enter_in w r (entering es has) writes q d root names) (λ on. follow_in absolute q d i.text names)
+  crossing_in crossing.Firm q d root i names = hold_in w r (entering es has) writes q d (slice_get i.targets 0) names
+  crossing_in crossing.Union q d root i names = enter_in w r (entering es has) writes q d root names
 
   -- A server is crossed.
   pub cross_in : (q : Authority) (d root : Name) (names : List (List ℕ)) → In es (cross w q r d root names)
@@ -184,5 +193,5 @@ module _ (w : World) {es : List Errno} (r : Asked) (s : Suits es r) where
 
   -- A walk comes to its end, or is refused by one of these.
   pub walk_in : (q : Authority) (d : Name) (names : List (List ℕ)) → In es (walk w q r d names)
-  walk_in q d [] = given_if _ _ _ (λ out. s.exclusive (not_not (is_exclusive r) out)) (λ free. open_in w r crossed s.writes q.ids d q.ways)
+  walk_in q d [] = given_if _ _ _ (λ out. s.exclusive (not_not (is_exclusive r) out)) (λ free. open_in w r (entering es crossed) s.writes q.ids d q.ways)
   walk_in q d (name ∷ names) = step_in q d name names (λ n. walk w q r n names) (λ n. walk_in q n names)
