@@ -38,7 +38,8 @@ fn add_boot_ports(alloc: Global, ports: &mut Ports) -> Result<(), Errno>
     ensures ok { IfOk result (λ u. ports.new.state ≡ boot_ports (ids_in ports.old.state)) }
     ensures err { IfErr result (λ e. e ≡ Errno.ENOMEM) }
 {
-    for task in 0..ports.task_count() as u32 {
+    let count = ports.seats().len();
+    for task in 0..count as u32 {
         add_boot_port(alloc, ports, TaskId(task))?;
         add_boot_port(alloc, ports, TaskId(task))?;
     }
