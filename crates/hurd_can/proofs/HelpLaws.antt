@@ -246,7 +246,7 @@ tried_two w who pair tasks v old new (Ok u) are looks is =
 tried_two w who pair tasks v old new (Err e) are looks is = tt
 
 -- what is at a place
-place_or : {X : Type 0} (xs : List X) (i : ℕ) (d : X) → i < length xs → slice_get xs i ≡ Some (get_or xs i d)
+pub place_or : {X : Type 0} (xs : List X) (i : ℕ) (d : X) → i < length xs → slice_get xs i ≡ Some (get_or xs i d)
 place_or [] i d lt = absurd (omega arith)
 place_or (y ∷ ys) zero d lt = refl
 place_or (y ∷ ys) (suc i) d lt = place_or ys i d (omega arith)

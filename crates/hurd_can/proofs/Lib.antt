@@ -1,2 +1,5 @@
 pub mod PickLaws
 pub mod HelpLaws
+pub mod ListLaws
+pub mod EachLaws
+pub mod RecallLaws

@@ -3,3 +3,4 @@ pub mod Noting
 pub mod Listed
 pub mod Remembered
 pub mod Recalling
+pub mod Could

@@ -10,8 +10,10 @@ mod listing;
 mod looking;
 mod noting;
 mod remembering;
+mod text;
 
 pub use helped::{Helped, Pair};
 pub use listing::unseen;
 pub use looking::helpers_of;
 pub use remembering::remember;
+pub use text::{Scene, could_text};

@@ -176,6 +176,22 @@ fn listed(alloc: Global, view: &View, every: bool) -> Result<Vec<SeenPart>, Allo
     Ok(parts)
 }
 
+/// Those of these parts that a look doesn't show. Fails only if memory runs out.
+fn not_shown<S: Server>(
+    alloc: Global,
+    nodes: &Nodes<S>,
+    sight: &Sight,
+    parts: &[SeenPart],
+) -> Result<Vec<SeenPart>, AllocError>
+    ensures { IfOk result (λ left. left.items ≡ kept_if (λ p. not (sees_with (shown S.meaning nodes.now) sight.now p)) parts.now) }
+{
+    let mut left = Vec::new(alloc);
+    for part in parts {
+        add_if(&mut left, !sight.sees(nodes, *part), *part)?;
+    }
+    Ok(left)
+}
+
 /// The parts that are listed of what is seen, except those that a look shows. Fails only if memory runs out.
 pub fn unseen<S: Server>(
     alloc: Global,
@@ -186,9 +202,6 @@ pub fn unseen<S: Server>(
 ) -> Result<Vec<SeenPart>, AllocError>
     ensures { IfOk result (λ parts. parts.items ≡ kept_if (λ p. not (sees_with (shown S.meaning nodes.now) sight.now p)) (listed every view.now)) }
 {
-    let mut parts = Vec::new(alloc);
-    for part in listed(alloc, view, every)?.as_slice() {
-        add_if(&mut parts, !sight.sees(nodes, *part), *part)?;
-    }
-    Ok(parts)
+    let parts = listed(alloc, view, every)?;
+    not_shown(alloc, nodes, sight, parts.as_slice())
 }
