@@ -31,6 +31,7 @@ pub use laws::{
 pub use learners::Learners;
 pub use learning::learn_text;
 pub use naming::{Naming, learners_of, tasks_of};
+pub use owners::{all_tasks, copied_names};
 pub use seeing::{look, reached, seen, view_of};
 pub use sights::see_text;
 pub use telling::{look_before, paragraph, said};

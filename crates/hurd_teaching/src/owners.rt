@@ -11,7 +11,7 @@ use hurd_ports::TaskSeat;
 use std::alloc::{AllocError, Global};
 
 /// All tasks, by their rows. Fails only if memory runs out.
-pub(crate) fn all_tasks(alloc: Global, seats: &[TaskSeat]) -> Result<Vec<TaskId>, AllocError>
+pub fn all_tasks(alloc: Global, seats: &[TaskSeat]) -> Result<Vec<TaskId>, AllocError>
     requires { length seats.now ≤ most_tasks }
     ensures { IfOk result (λ tasks. tasks.items ≡ tasks_below (length seats.now)) }
 {
@@ -23,7 +23,7 @@ pub(crate) fn all_tasks(alloc: Global, seats: &[TaskSeat]) -> Result<Vec<TaskId>
 }
 
 /// The names of tasks, as bytes. Fails only if memory runs out.
-pub(crate) fn copied_names(alloc: Global, names: &[String]) -> Result<Vec<Bytes>, AllocError>
+pub fn copied_names(alloc: Global, names: &[String]) -> Result<Vec<Bytes>, AllocError>
     ensures { IfOk result (λ copies. copies.items ≡ map string_bytes names.now) }
 {
     let mut copies = Vec::new(alloc);
