@@ -7,6 +7,7 @@ _hurd_takes() {
         run) operands=(FILE) options=(--calls --json --max-output -h --help) ;;
         learn) operands=(WHO FILE) options=(--calls --how --max-look --max-output -h --help) ;;
         see) operands=(WHO FILE) options=(--calls --max-look --max-output -h --help) ;;
+        can) operands=(WHO FILE) options=(--all --calls --max-output -h --help) ;;
         draw) operands=(FILE) options=(--as --calls --max-output -h --help) ;;
         compare) operands=(WHO FILE FILE) options=(--max-output -h --help) ;;
         sample) operands=() options=(--calls --max-output -h --help) ;;
@@ -17,7 +18,7 @@ _hurd_takes() {
 
 # Completes a word.
 _hurd() {
-    local word=${COMP_WORDS[COMP_CWORD]} verbs=(run learn see draw compare sample help) operands options at place=0 is_after=
+    local word=${COMP_WORDS[COMP_CWORD]} verbs=(run learn see can draw compare sample help) operands options at place=0 is_after=
     COMPREPLY=()
     if [ "$COMP_CWORD" = 1 ]; then
         operands=(VERB) options=(-h --help -V --version)

@@ -1,6 +1,6 @@
-/* Steps of a program over the library, a word each. begin=TEXT, make=TEXT, watch=WHO, told=FROM and end are about a world that is kept; run=TEXT, learn=TEXT, see=TEXT
-   and draw=TEXT about a whole text. Behind each but `end` stand the bytes that were copied, if any may be, and a line that says how it ended. room=N, sort=N and who=WHO
-   say what the later steps are given, and file=NAME where the next text stands.
+/* Steps of a program over the library, a word each. begin=TEXT, make=TEXT, watch=WHO, told=FROM and end are about a world that is kept; run=TEXT, learn=TEXT, see=TEXT,
+   can=TEXT and draw=TEXT about a whole text. Behind each but `end` stand the bytes that were copied, if any may be, and a line that says how it ended. room=N, sort=N,
+   who=WHO and every=N say what the later steps are given, and file=NAME where the next text stands.
 
    Each text and each room has a block of its own of that size, so that who looks at the memory sees a byte too many. Bytes behind those that were copied should be
    as they were. With the first word `on` the program goes on where memory is refused, else it says so and ends. */
@@ -16,7 +16,7 @@ enum { FILLED = 0xa5, MOST = 1 << 22 };
 static hurd_world world = HURD_NO_WORLD;
 static size_t room = 4096;
 static int goes_on;
-static uint32_t sort;
+static uint32_t sort, every;
 static const char *who = "", *file;
 static uint8_t *text, *named, *out;
 
@@ -121,11 +121,19 @@ static const char *behind(const char *word, const char *name)
     return strncmp(word, name, size) || word[size] != '=' ? NULL : word + size + 1;
 }
 
+/* hurd_can, called as the other functions are. */
+static hurd_said could(uint32_t of, const uint8_t *bytes, size_t size, const uint8_t *names, size_t names_size, uint8_t *to, size_t most)
+{
+    return hurd_can(of, bytes, size, names, names_size, every, to, most);
+}
+
 /* Makes a step of a whole text, if the word is one. */
 static int step_of_text(const char *word)
 {
     typedef hurd_said function(uint32_t, const uint8_t *, size_t, const uint8_t *, size_t, uint8_t *, size_t);
-    static const struct { const char *name; function *asks; } all[] = { { "run", NULL }, { "learn", hurd_learn }, { "see", hurd_see }, { "draw", hurd_draw } };
+    static const struct { const char *name; function *asks; } all[] = {
+        { "run", NULL }, { "learn", hurd_learn }, { "see", hurd_see }, { "can", could }, { "draw", hurd_draw }
+    };
     for (size_t i = 0; i < sizeof all / sizeof *all; i++) {
         const char *rest = behind(word, all[i].name);
         if (!rest)
@@ -179,6 +187,8 @@ static void step(const char *word)
         sort = strtoul(rest, NULL, 10);
     else if ((rest = behind(word, "who")))
         who = rest;
+    else if ((rest = behind(word, "every")))
+        every = strtoul(rest, NULL, 10);
     else if ((rest = behind(word, "file")))
         file = rest;
     else if (!step_of_world(word) && !step_of_text(word)) {

@@ -1,5 +1,5 @@
 // page-modules.js PAGE RANDOM: runs each script and call list by the module of the page, and by the program that HURD names, with the same words and files. It
-// compares output, standard error and status: of `learn` and `see` for each user alone, for all, and for nobody; of `compare` for pairs of scripts; of each other
+// compares output, standard error and status: of `learn`, `see` and `can` for each user alone, for all, and for nobody; of `compare` for pairs of scripts; of each other
 // verb and flag for the examples. It does the same with ./hurd over node, which takes the files itself. Then it refuses memory.
 "use strict";
 const { mkdirSync, mkdtempSync, readFileSync, readdirSync, rmSync, writeFileSync } = require("node:fs");
@@ -47,7 +47,7 @@ const is_same = (one, other) => one.status === other.status && one.out.equals(ot
 
 const runs = [];
 const add = (name, text, words, { files = [], by_node = false } = {}) => runs.push({ name, text: Buffer.from(text), words, files, by_node });
-const compare = (sort, name, text, everybody) => { for (const who of everybody) for (const verb of ["learn", "see"]) add(name, text, [verb, ...(sort === "calls" ? ["--calls"] : []), "--", who, "-"]); };
+const compare = (sort, name, text, everybody) => { for (const who of everybody) for (const verb of ["learn", "see", "can"]) add(name, text, [verb, ...(sort === "calls" ? ["--calls"] : []), "--", who, "-"]); };
 const compare_pair = (name, one, two, everybody) => { for (const who of everybody) { const first = in_file(one); add(name, two, ["compare", "--", who, first[0], "-"], { files: [first] }); } };
 const ended = { 0: 0, 1: 0, 2: 0, 3: 0 }; // how many pairs ended with each status
 
@@ -88,16 +88,16 @@ compare("script", "welcome.hurd", script, names);
 compare("calls", "learned-cut.calls", list, names);
 compare("calls", "welcome.hurd", script, ["0"]);
 compare("script", "learned-cut.calls", list, ["root"]);
-for (const words of [[], ["learn"], ["learn", "root"], ["learn", "root", "-", "-"], ["see", "--calls", "root"], ["frob", "root", "-"], ["learns", "root", "-"], ["compare", ""], ["compare", "root", "-", "-"], ["", "", ""], ["run", "--frob", "-"], ["run", "-", "--", "-"],
-  ["--help"], ["--version"], ["help"], ["help", "learn"], ["help", "frob"], ...["run", "learn", "see", "draw", "compare", "sample"].map(verb => [verb, "--help"])]) {
+for (const words of [[], ["learn"], ["learn", "root"], ["learn", "root", "-", "-"], ["see", "--calls", "root"], ["can", "--all", "root"], ["frob", "root", "-"], ["learns", "root", "-"], ["compare", ""], ["compare", "root", "-", "-"], ["", "", ""], ["run", "--frob", "-"], ["run", "-", "--", "-"],
+  ["--help"], ["--version"], ["help"], ["help", "learn"], ["help", "frob"], ...["run", "learn", "see", "can", "draw", "compare", "sample"].map(verb => [verb, "--help"])]) {
   for (const by_node of [false, true]) add("welcome.hurd", script, words, { by_node });
 }
 
 // files: an example of each sort with each verb; one that isn't there, a folder, and texts that are too long
 const here = join(folder, "a folder"), none = join(folder, "nothing here");
 mkdirSync(here);
-const asked = (name, text) => name.endsWith(".calls") ? [["run"], ["run", "--json"], ["draw"], ["draw", "--as", "1"], ["learn", "1"], ["see", "1"], ["learn", "--how", "1"]]
-  : [["run"], ["run", "--json"], ["draw"], ["draw", "--as", users_of(text).join(",")], ["learn", "root"], ["learn", "--max-look", "300", "root"], ["run", "--max-output", "100"], ["see", "root"]];
+const asked = (name, text) => name.endsWith(".calls") ? [["run"], ["run", "--json"], ["draw"], ["draw", "--as", "1"], ["learn", "1"], ["see", "1"], ["can", "1"], ["can", "--all", "1"], ["learn", "--how", "1"]]
+  : [["run"], ["run", "--json"], ["draw"], ["draw", "--as", users_of(text).join(",")], ["learn", "root"], ["learn", "--max-look", "300", "root"], ["run", "--max-output", "100"], ["see", "root"], ["can", "root"], ["can", "--all", "root"]];
 for (const file of [...files("examples", ".hurd"), ...files("examples", ".calls")]) {
   const text = readFileSync(file);
   for (const words of asked(file, text)) add(basename(file), "", [...words, file], { files: [[file, text]] });
@@ -105,7 +105,7 @@ for (const file of [...files("examples", ".hurd"), ...files("examples", ".calls"
 add("vote.hurd", "", ["learn", "--how", "alice", "examples/vote.hurd"], { files: [["examples/vote.hurd", readFileSync("examples/vote.hurd")]] });
 const too_long = in_file(long + "\n"), far_too_long = in_file("#".repeat(1 << 22));
 for (const file of ["examples/vote.hurd", "examples/pipe.calls", too_long[0], far_too_long[0], none, here]) {
-  for (const words of [["run", file], ["run", "--", file], ["see", "alice", file], ["compare", "alice", "examples/vote.hurd", file], ["compare", "alice", file, "-"], ["draw", "--as", "alice", file]]) {
+  for (const words of [["run", file], ["run", "--", file], ["see", "alice", file], ["can", "alice", file], ["compare", "alice", "examples/vote.hurd", file], ["compare", "alice", file, "-"], ["draw", "--as", "alice", file]]) {
     const named = [...new Set(words)].filter(word => word === file || word.startsWith("examples/"));
     add("a file", script, words, { files: named.filter(name => name !== none).map(name => [name, name === here ? null : readFileSync(name)]) });
     add("a file, by node", script, words, { by_node: true });
@@ -169,7 +169,7 @@ function refuses(text, words, files, whole, how) {
 function refuse_memory() {
   const before = failed, bytes = "x".repeat(3000);
   const bad = good + "alice frob\n", different = good.replace("ls /", "ls -d /");
-  const asked = [["examples/hello.hurd", "alice"], ["examples/union.hurd", "root"], ["examples/learned-cut.calls", "--calls", "1"]].flatMap(([file, ...words]) => ["learn", "see"].map(verb => [readFileSync(file), [verb, ...words, "-"], []]));
+  const asked = [["examples/hello.hurd", "alice"], ["examples/union.hurd", "root"], ["examples/learned-cut.calls", "--calls", "1"]].flatMap(([file, ...words]) => ["learn", "see", "can"].map(verb => [readFileSync(file), [verb, ...words, "-"], []]));
   for (const [one, two, who] of [[example("secret-told"), example("secret-told-otherwise"), "alice,guest"], [example("started-by-alice"), example("started-by-bob"), "alice"], [good, different, "alice"], [good, bad, "alice"], [bad, good, "alice"], [good, good, "nobody"]]) asked.push([Buffer.from(two), ["compare", who, "ONE", "-"], [["ONE", Buffer.from(one)]]]);
   for (const [text, words, files] of asked) {
     const whole = by_module(text, words, { files });
@@ -178,7 +178,7 @@ function refuse_memory() {
   const script = "user alice 1000 1000\n" + Array.from({ length: 250 }, (_, k) => `root put /f${k} ${bytes}\n`).join("") + "alice ls /\nalice cat /f7\n# see\n";
   const list = "task 0 0\ntask 1000 1000\n" + Array.from({ length: 120 }, (_, k) => `0 dir_lookup 1 =f${k} CREATE,WRITE 644\n0 io_write ${k + 3} =${bytes} 0\n`).join("") + "1 dir_lookup 1 = READ 0\n# see\n";
   const other = [["ONE", Buffer.from(script.replace("/f7 xx", "/f7 yy"))]];
-  for (const [made, words, files] of [[script, ["learn", "alice", "-"], []], [script, ["learn", "root", "-"], []], [list, ["learn", "--calls", "1", "-"], []], [script, ["see", "alice", "-"], []], [list, ["see", "--calls", "1", "-"], []], [script, ["compare", "alice", "ONE", "-"], other]]) {
+  for (const [made, words, files] of [[script, ["learn", "alice", "-"], []], [script, ["learn", "root", "-"], []], [list, ["learn", "--calls", "1", "-"], []], [script, ["see", "alice", "-"], []], [list, ["see", "--calls", "1", "-"], []], [script, ["can", "alice", "-"], []], [list, ["can", "--calls", "1", "-"], []], [script, ["compare", "alice", "ONE", "-"], other]]) {
     const text = Buffer.from(made), whole = by_module(text, words, { files }), floor = new WebAssembly.Instance(module_of_page, {}).exports.memory.buffer.byteLength / 65536;
     says(`${words.join(" ")} with ample memory: status ${whole.status}`, whole.status === (words[0] === "compare" ? 3 : 0) && !whole.errors.length);
     for (let pages = floor + 24; pages <= whole.pages; pages += 4) refuses(text, words, files, whole, { pages });

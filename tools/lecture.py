@@ -65,7 +65,7 @@ def main():
         page = file.read()
     made = replaced(page, "## The Hurd in ten minutes", "## The plan", introduction(steps))
     made = replaced(made, "## The plan", "Two traps for those who are fast.", plan(steps))
-    made = replaced(made, "## Eight questions", "The outputs of all are stored", questions(steps))
+    made = replaced(made, "## Ten questions", "The outputs of all are stored", questions(steps))
     if "--check" not in sys.argv[1:]:
         with open(PAGE, "w", encoding="utf-8") as file:
             file.write(made)

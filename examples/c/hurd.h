@@ -1,7 +1,7 @@
 /* The tree as a library: it takes texts, and gives back as text what the program `hurd` prints of them.
 
-   A text is a script of users' commands, as for `hurd run SCRIPT.hurd`, or a list of tasks' calls, as for `hurd run LIST.calls`. hurd_run, hurd_learn, hurd_see and
-   hurd_draw run a whole text of either sort in a world of its own. A world that is kept takes lists, and prints the line of each call and then its reply.
+   A text is a script of users' commands, as for `hurd run SCRIPT.hurd`, or a list of tasks' calls, as for `hurd run LIST.calls`. hurd_run, hurd_learn, hurd_see,
+   hurd_can and hurd_draw run a whole text of either sort in a world of its own. A world that is kept takes lists, and prints the line of each call and then its reply.
 
    What a program must do, since nothing checks it:
    - A hurd_world starts as HURD_NO_WORLD. Only these functions write it. It isn't copied while it has a world.
@@ -67,7 +67,7 @@ size_t hurd_told(hurd_world *world, size_t from, uint8_t *out, size_t room);
 /* Frees the world. */
 void hurd_end(hurd_world *world);
 
-/* Each of the next four does what a command of `hurd` does with a whole text, in a world of its own that is freed at the end. It copies what the command prints, as
+/* Each of the next five does what a command of `hurd` does with a whole text, in a world of its own that is freed at the end. It copies what the command prints, as
    far as there is room; `length` says how much that is, and a call with more room gets the rest. If the status is HURD_BAD or HURD_UNKNOWN, it copies the
    complaint instead: what the command prints after the name of the file, from the colon on. At any other failure nothing is copied. */
 
@@ -80,6 +80,10 @@ hurd_said hurd_learn(uint32_t sort, const uint8_t *text, size_t size, const uint
 
 /* As `hurd see`: everything that `who` can see at the end of the text. */
 hurd_said hurd_see(uint32_t sort, const uint8_t *text, size_t size, const uint8_t *who, size_t who_size, uint8_t *out, size_t room);
+
+/* As `hurd can`: what `who` could be shown at the end of the text, and by whose help. If `every` is 0, it lists bytes, entries and nodes; else it lists every part, as
+   with `--all`. */
+hurd_said hurd_can(uint32_t sort, const uint8_t *text, size_t size, const uint8_t *who, size_t who_size, uint32_t every, uint8_t *out, size_t room);
 
 /* As `hurd draw`: a picture of the world at the end of the text. It marks what `who` can see; if `who` is empty, it has no marks. */
 hurd_said hurd_draw(uint32_t sort, const uint8_t *text, size_t size, const uint8_t *who, size_t who_size, uint8_t *out, size_t room);

@@ -20,7 +20,7 @@ import os
 import threading
 from typing import Any, List, NoReturn, Tuple, Union
 
-__all__ = ["BadText", "HurdError", "NoMemory", "NoSort", "NoWorld", "Refused", "Sort", "Unknown", "World", "draw", "learn", "run", "see"]
+__all__ = ["BadText", "HurdError", "NoMemory", "NoSort", "NoWorld", "Refused", "Sort", "Unknown", "World", "can", "draw", "learn", "run", "see"]
 
 Text = Union[str, bytes]
 
@@ -116,6 +116,7 @@ class _Status(enum.IntEnum):
 _HELD = ctypes.POINTER(_World)
 _BYTES = [ctypes.c_char_p, ctypes.c_size_t]
 _SORT = [ctypes.c_uint32]
+_FLAG = [ctypes.c_uint32]
 # The functions of hurd.h: what each returns, and what it takes.
 _FUNCTIONS = {
     "hurd_begin": (_Said, [_HELD, *_BYTES, *_BYTES]),
@@ -126,6 +127,7 @@ _FUNCTIONS = {
     "hurd_run": (_Said, [*_SORT, *_BYTES, *_BYTES]),
     "hurd_learn": (_Said, [*_SORT, *_BYTES, *_BYTES, *_BYTES]),
     "hurd_see": (_Said, [*_SORT, *_BYTES, *_BYTES, *_BYTES]),
+    "hurd_can": (_Said, [*_SORT, *_BYTES, *_BYTES, *_FLAG, *_BYTES]),
     "hurd_draw": (_Said, [*_SORT, *_BYTES, *_BYTES, *_BYTES]),
 }
 
@@ -297,8 +299,8 @@ class World:
         _fail(said, told, who)
 
 
-def _printed(function: Any, sort: int, text: Text, *who: Text) -> str:
-    """What a function of the library prints of a whole text. If there was too little room, it asks again with more."""
+def _printed(function: Any, sort: int, text: Text, *who: Text, flags: Tuple[bool, ...] = ()) -> str:
+    """What a function of the library prints of a whole text. Its flags follow the texts. If there was too little room, it asks again with more."""
     if not 0 <= sort < 1 << 32:
         raise NoSort
     given = [_bytes_of(one) for one in (text, *who)]
@@ -307,7 +309,7 @@ def _printed(function: Any, sort: int, text: Text, *who: Text) -> str:
     while length > room:
         room = length
         out = ctypes.create_string_buffer(room)
-        said = function(sort, *words, out, room)
+        said = function(sort, *words, *flags, out, room)
         length = said.length
     told = _text_of(ctypes.string_at(out, length))
     if said.status:
@@ -335,6 +337,14 @@ def learn(text: Text, who: Text, sort: int = Sort.SCRIPT) -> str:
 def see(text: Text, who: Text, sort: int = Sort.SCRIPT) -> str:
     """Everything that `who` can see at the end of a text, as `hurd see` prints it. Raises what `learn` raises."""
     return _printed(_library.hurd_see, sort, text, who)
+
+
+def can(text: Text, who: Text, every: bool = False, sort: int = Sort.SCRIPT) -> str:
+    """What `who` could be shown at the end of a text, and by whose help, as `hurd can` prints it.
+
+    It lists bytes, entries and nodes; with `every` it lists every part, as `hurd can --all` does. Raises what `learn` raises.
+    """
+    return _printed(_library.hurd_can, sort, text, who, flags=(bool(every),))
 
 
 def draw(text: Text, who: Text = "", sort: int = Sort.SCRIPT) -> str:

@@ -19,6 +19,7 @@ ROOT = Path(__file__).resolve().parents[2]
 LISTS = sorted([*ROOT.glob("examples/*.calls"), *ROOT.glob("tests/calls/*.calls")])
 SCRIPTS = sorted([*ROOT.glob("examples/*.hurd"), *ROOT.glob("tests/scripts/*.hurd")])
 LEARNED = sorted(ROOT.glob("examples/learned-*.learned"))
+COULD = sorted(ROOT.glob("examples/*.could"))
 
 # A world of root and a user, in which root keeps a file open.
 TASKS = "task 0 0\ntask 1000 1000\n"
@@ -71,7 +72,7 @@ def rows(name: str) -> Iterator[Row]:
 
 
 def test_there_are_texts() -> None:
-    assert len(LISTS) > 60 and len(SCRIPTS) > 60 and len(LEARNED) > 20
+    assert len(LISTS) > 60 and len(SCRIPTS) > 60 and len(LEARNED) > 20 and COULD
 
 
 def test_lists_at_once() -> None:
@@ -151,6 +152,22 @@ def test_see() -> None:
         "  alice sees: /f: -000644 1 0 0 1, served by / (server), bytes x",
     ]
     assert hurd.see(TASKS, "1", Sort.CALLS).endswith("  task 1 sees: tasks: 2\n")
+
+
+def test_what_alice_could_be_shown() -> None:
+    for path in COULD:
+        assert hurd.can(path.with_suffix(".hurd").read_bytes(), "alice") == told_of(path), path
+
+
+def test_can() -> None:
+    """The parts are bytes, entries and nodes, or every part; help is that of users, or of tasks."""
+    script, last = "user alice - -\nroot mkdir -m 700 /d\n", "; help is any act that touches what alice see, meant or not"
+    entries = "  alice could see: /d: entries: with root"
+    assert hurd.can(script, "alice") == f"{entries}\nalice could be shown 1 part{last}\n"
+    lines = hurd.can(script, "alice", every=True).splitlines()
+    assert lines[0] == entries and len(lines) > 2
+    assert lines[-1] == f"alice could be shown {len(lines) - 1} parts{last}"
+    assert hurd.can(TASKS + "0 dir_mkdir 1 =d 700", "1", sort=Sort.CALLS).startswith("  task 1 could see: /d: entries: with task 0\ntask 1 could be shown 1 part; ")
 
 
 def test_draw() -> None:
@@ -248,7 +265,7 @@ def test_bytes_of_a_script_come_back() -> None:
 
 def test_nobody_knows_them() -> None:
     for who in ("nobody", "alice,nobody"):
-        for does in (hurd.learn, hurd.see, hurd.draw):
+        for does in (hurd.learn, hurd.see, hurd.can, hurd.draw):
             fault = raises(hurd.Unknown, lambda: does(SCRIPT, who))
             assert fault.who == who and fault.reason == f"no such user: {who}"
     assert raises(hurd.Unknown, lambda: hurd.see(TASKS, "99", Sort.CALLS)).reason == "no such task: 99"
@@ -266,7 +283,7 @@ def test_sorts() -> None:
 def test_other_types() -> None:
     with World(TASKS) as world:
         for text in (None, 7, bytearray(b"0 io_stat 1"), memoryview(b"0 io_stat 1"), ["0 io_stat 1"]):
-            for does in (World, world.make, world.learn, hurd.run, lambda text: hurd.learn(text, ""), lambda who: hurd.see("", who)):
+            for does in (World, world.make, world.learn, hurd.run, lambda text: hurd.learn(text, ""), lambda who: hurd.see("", who), lambda who: hurd.can("", who)):
                 raises(TypeError, lambda: does(text))
         assert world.make("0 io_seek 9 0 Set") == "0 io_seek 9 0 Set\n  Refused EBADF\n"
 

@@ -38,6 +38,7 @@ extern "C" {
     fn hurd_run(sort: u32, text: *const u8, size: usize, out: *mut u8, room: usize) -> Said;
     fn hurd_learn(sort: u32, text: *const u8, size: usize, who: *const u8, who_size: usize, out: *mut u8, room: usize) -> Said;
     fn hurd_see(sort: u32, text: *const u8, size: usize, who: *const u8, who_size: usize, out: *mut u8, room: usize) -> Said;
+    fn hurd_can(sort: u32, text: *const u8, size: usize, who: *const u8, who_size: usize, every: u32, out: *mut u8, room: usize) -> Said;
     fn hurd_draw(sort: u32, text: *const u8, size: usize, who: *const u8, who_size: usize, out: *mut u8, room: usize) -> Said;
 }
 
@@ -184,6 +185,12 @@ pub fn see(sort: Sort, text: &[u8], who: &[u8]) -> Result<Vec<u8>, Error> {
     printed_for(hurd_see, sort, text, who)
 }
 
+/// What `who` could be shown at the end of a text, and by whose help, as `hurd can` prints it. It lists bytes, entries and nodes; with `every` it lists every part.
+pub fn can(sort: Sort, text: &[u8], who: &[u8], every: bool) -> Result<Vec<u8>, Error> {
+    // SAFETY: the same.
+    printed(|out| unsafe { hurd_can(sort as u32, text.as_ptr(), text.len(), who.as_ptr(), who.len(), u32::from(every), out.as_mut_ptr(), out.len()) })
+}
+
 /// A picture of the end of a text in the language of Graphviz, as `hurd draw` prints it. It marks what `who` can see; `who` may be empty.
 pub fn draw(sort: Sort, text: &[u8], who: &[u8]) -> Result<Vec<u8>, Error> {
     printed_for(hurd_draw, sort, text, who)
@@ -203,6 +210,7 @@ fn main() -> Result<(), Box<dyn error::Error>> {
     out.write_all(&run(Sort::Script, script)?)?;
     out.write_all(&learn(Sort::Script, script, b"alice")?)?;
     out.write_all(&see(Sort::Calls, b"task - -", b"0")?)?;
+    out.write_all(&can(Sort::Script, b"user alice - -\nroot mkdir -m 700 /d\n", b"alice", false)?)?;
     writeln!(out, "a picture: {} bytes", draw(Sort::Script, b"", b"")?.len())?;
 
     let refused = [world.make(b"nonsense"), world.make(b"task 0 0"), run(Sort::Script, b"root frob /"), learn(Sort::Script, script, b"bob")];

@@ -7,7 +7,7 @@ const ABOUT: &str =
     "Run scripts in which several users share a file tree, and report what each of them can learn.\nThe tree is in memory. Files may be served by translators of ten built-in kinds, as in the GNU Hurd.";
 
 const AFTER: &str =
-    "FILE  a script; or a call list, if its name ends in .calls or --calls is given; - is standard input\nWHO   comma-separated users of the script, or task numbers of the call list\nONE, TWO  scripts with the same users, in which WHO run the same commands\n\nExit status:\n  0  success (compare: WHO get the same replies in both scripts)\n  1  FILE is invalid, WHO names somebody who is not in it, or ONE and TWO cannot be compared\n  2  wrong usage, a read or write failed, or out of memory\n  3  compare: WHO get a different reply in TWO\n  4  there was more output than --max-output allows\n\nErrors go to standard error, as  hurd: FILE:LINE: bad script: REASON\n\nExamples:\n  hurd run examples/welcome.hurd\n  hurd learn alice examples/learned-secret.hurd\n  hurd learn --how alice examples/learned-secret.hurd\n  hurd see alice examples/learned-secret.hurd\n  hurd draw --as alice examples/learned-secret.hurd | dot -Tsvg > tree.svg\n  hurd compare alice examples/unseen-one.hurd examples/unseen-two.hurd\n  hurd run --json examples/sent-port.calls\n  hurd sample 7 | hurd learn alice -";
+    "FILE  a script; or a call list, if its name ends in .calls or --calls is given; - is standard input\nWHO   comma-separated users of the script, or task numbers of the call list\nONE, TWO  scripts with the same users, in which WHO run the same commands\n\nExit status:\n  0  success (compare: WHO get the same replies in both scripts)\n  1  FILE is invalid, WHO names somebody who is not in it, or ONE and TWO cannot be compared\n  2  wrong usage, a read or write failed, or out of memory\n  3  compare: WHO get a different reply in TWO\n  4  there was more output than --max-output allows\n\nErrors go to standard error, as  hurd: FILE:LINE: bad script: REASON\n\nExamples:\n  hurd run examples/welcome.hurd\n  hurd learn alice examples/learned-secret.hurd\n  hurd learn --how alice examples/learned-secret.hurd\n  hurd see alice examples/learned-secret.hurd\n  hurd can alice examples/learned-secret.hurd\n  hurd draw --as alice examples/learned-secret.hurd | dot -Tsvg > tree.svg\n  hurd compare alice examples/unseen-one.hurd examples/unseen-two.hurd\n  hurd run --json examples/sent-port.calls\n  hurd sample 7 | hurd learn alice -";
 
 const FILE: &str = "a script, a call list (NAME.calls), or - for standard input";
 
@@ -95,6 +95,23 @@ fn learn<'a>(alloc: Global) -> Result<Command<'a>, AllocError> {
     .arg(word(alloc, "FILE", FILE))
 }
 
+/// The verb for what could be shown. Fails only if memory runs out.
+fn can<'a>(alloc: Global) -> Result<Command<'a>, AllocError> {
+    let all = Arg::new(alloc, "all")
+        .long("all")
+        .action(ArgAction::SetTrue)
+        .help("List every part, not only bytes, entries and nodes");
+    verb(
+        alloc,
+        "can",
+        "Print what WHO could be shown at the end, and by whose help",
+    )?
+    .arg(all)?
+    .arg(most_output(alloc))?
+    .arg(word(alloc, "WHO", WHO))?
+    .arg(word(alloc, "FILE", FILE))
+}
+
 /// The verb for a random text. Fails only if memory runs out.
 fn sample<'a>(alloc: Global) -> Result<Command<'a>, AllocError> {
     let calls = Arg::new(alloc, "calls")
@@ -157,6 +174,7 @@ pub fn hurd<'a>(alloc: Global) -> Result<Command<'a>, AllocError> {
         .subcommand(run(alloc)?)?
         .subcommand(learn(alloc)?)?
         .subcommand(see)?
+        .subcommand(can(alloc)?)?
         .subcommand(draw)?
         .subcommand(compare(alloc)?)?
         .subcommand(sample(alloc)?)

@@ -211,6 +211,10 @@ fn request_of(alloc: Global, verb: &str, matches: &ArgMatches<'_>) -> Result<Ask
             who: text_of(alloc, matches, "WHO")?,
             most: bytes_of(matches, "max-look")?,
         },
+        "can" => Verb::Can {
+            who: text_of(alloc, matches, "WHO")?,
+            every: matches.get_flag("all"),
+        },
         "draw" => Verb::Draw {
             who: named_by(alloc, matches)?,
         },

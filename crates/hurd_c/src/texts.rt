@@ -1,5 +1,6 @@
 //! Whole texts: what C calls to have one told in a world of its own.
-ghost use Rattle.std.specs.Prelude.{◌≡◌, IsUtf8, MatchResult, None, option_map, string_bytes};
+ghost use Rattle.std.specs.Prelude.{◌≡◌, ◌==◌, not, IsUtf8, MatchResult, None, option_map, string_bytes};
+ghost use Rattle.hurd_can.specs.Programs.{could};
 ghost use Rattle.hurd_dialogue.specs.Sorts.{running};
 ghost use Rattle.hurd_teaching.specs.Drawings.{drawing};
 ghost use Rattle.hurd_program.specs.Requests.{asked, sort_of};
@@ -105,6 +106,31 @@ pub extern "C" fn hurd_see(
     match named(alloc, who) {
         Ok(who) => {
             let verb = Verb::See { who, most: None };
+            told(alloc, &Request { sort, verb }, text, out)
+        }
+        Err(fault) => ending(Err(fault), 0),
+    }
+}
+
+/// The same of what those could be shown at the end of a text, and by whose help: of every part if `every` isn't 0, else of bytes, entries and nodes.
+#[unsafe(no_mangle)]
+pub extern "C" fn hurd_can(
+    alloc: Global,
+    sort: u32,
+    text: &[u8],
+    who: &[u8],
+    every: u32,
+    out: &mut [u8],
+) -> Said
+    ensures { OfSome who.now sort (λ s. could s (not (every == 0)) who.now) text.now result out.old out.new }
+{
+    let Some(sort) = sort_at(sort) else {
+        return no_sort();
+    };
+    match named(alloc, who) {
+        Ok(who) => {
+            let every = every != 0;
+            let verb = Verb::Can { who, every };
             told(alloc, &Request { sort, verb }, text, out)
         }
         Err(fault) => ending(Err(fault), 0),

@@ -3,3 +3,5 @@ pub mod HelpLaws
 pub mod ListLaws
 pub mod EachLaws
 pub mod RecallLaws
+pub mod EndLaws
+pub mod OneCould

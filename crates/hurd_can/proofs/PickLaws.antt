@@ -78,3 +78,31 @@ pair_among (d ∷ ds) pair i = elim (among_append pair (with_each d ds) (pairs_o
   | inl here ↦ let k = each_among d ds pair here in (inl (sym k.0), inr k.1)
   | inr there ↦ let k = pair_among ds pair there in (inr k.0, inr k.1)
 ]
+
+-- what is picked: those that pass the test, and no others
+
+picked_passes : {X : Type 0} (P : X → Type 0) (xs ys : List X) → Picks P xs ys → (y : X) → IsAmong y ys → IsAmong y xs × P y
+picked_passes {X} P [] ys is y i = absurd (subst (IsAmong y) is i)
+picked_passes {X} P (x ∷ xs) ys (inl (holds, rest, is, picks)) y i = elim (subst (IsAmong y) is i) [
+  | inl same ↦ (inl same, subst P same holds)
+  | inr later ↦ let k = picked_passes P xs rest picks y later in (inr k.0, k.1)
+]
+picked_passes {X} P (x ∷ xs) ys (inr (fails, picks)) y i = let k = picked_passes P xs ys picks y i in (inr k.0, k.1)
+
+passes_picked : {X : Type 0} (P : X → Type 0) (xs ys : List X) → Picks P xs ys → (y : X) → IsAmong y xs → P y → IsAmong y ys
+passes_picked {X} P [] ys is y i p = absurd i
+passes_picked {X} P (x ∷ xs) ys (inl (holds, rest, is, picks)) y (inl same) p = subst (IsAmong y) (sym is) (inl same)
+passes_picked {X} P (x ∷ xs) ys (inl (holds, rest, is, picks)) y (inr i) p = subst (IsAmong y) (sym is) (inr (passes_picked P xs rest picks y i p))
+passes_picked {X} P (x ∷ xs) ys (inr (fails, picks)) y (inl same) p = absurd (fails (subst P (sym same) p))
+passes_picked {X} P (x ∷ xs) ys (inr (fails, picks)) y (inr i) p = passes_picked P xs ys picks y i p
+
+pub picks_those : {X : Type 0} (P : X → Type 0) (xs ys : List X) → Picks P xs ys → (y : X) → IsAmong y ys ↔ (IsAmong y xs × P y)
+picks_those P xs ys picks y = (λ i. picked_passes P xs ys picks y i, λ k. passes_picked P xs ys picks y k.0 k.1)
+
+-- one list is picked
+pub picks_once : {X : Type 0} (P : X → Type 0) (xs ys zs : List X) → Picks P xs ys → Picks P xs zs → ys ≡ zs
+picks_once P [] ys zs a b = a ∙ sym b
+picks_once P (x ∷ xs) ys zs (inl (p, rest, is, picks)) (inl (q, other, too, more)) = is ∙ (ap (λ l. x ∷ l) (picks_once P xs rest other picks more) ∙ sym too)
+picks_once P (x ∷ xs) ys zs (inl (p, rest, is, picks)) (inr (fails, more)) = absurd (fails p)
+picks_once P (x ∷ xs) ys zs (inr (fails, picks)) (inl (q, other, too, more)) = absurd (fails q)
+picks_once P (x ∷ xs) ys zs (inr (fails, picks)) (inr (missed, more)) = picks_once P xs ys zs picks more

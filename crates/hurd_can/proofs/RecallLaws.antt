@@ -18,7 +18,7 @@ use Rattle.hurd_can.proofs.HelpLaws.{take_more, place_or}
 use Rattle.hurd_can.proofs.PickLaws.{among_append}
 
 -- two views with the same rows show a part alike
-same_rows : (a b : View) → a.rows ≡ b.rows → (p : SeenPart) → row_of a p ≡ row_of b p
+pub same_rows : (a b : View) → a.rows ≡ b.rows → (p : SeenPart) → row_of a p ≡ row_of b p
 same_rows a b same (seen.Attributes n) = ap (λ es. row_at es n) same
 same_rows a b same (seen.Empty n) = ap (λ es. row_at es n) same
 same_rows a b same (seen.Body n) = ap (λ es. row_at es n) same

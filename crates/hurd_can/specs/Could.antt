@@ -120,11 +120,11 @@ abbrev pub count_text : List ℕ → ℕ → List ℕ
 count_text who count = who ++ (codes " could be shown " ++ (decimal count ++ parts_word count))
 
 abbrev pub help_text : List ℕ → List ℕ
-help_text who = codes "; help is any act that touches what " ++ (who ++ codes " see, meant or not\n")
+help_text sees = codes "; help is any act that touches what " ++ (sees ++ codes ", meant or not\n")
 
-abbrev pub last_line : List ℕ → ℕ → List ℕ
-last_line who count = count_text who count ++ help_text who
+abbrev pub last_line : List ℕ → List ℕ → ℕ → List ℕ
+last_line who sees count = count_text who count ++ help_text sees
 
--- all that is printed
-abbrev pub could_text : View → List (List ℕ) → List Task → List TaskId → List ℕ → List Help → List ℕ
-could_text v names tasks all who hs = could_lines v names tasks all who hs ++ last_line who (length hs)
+-- all that is printed of those who are called so, and see, in words
+abbrev pub could_text : View → List (List ℕ) → List Task → List TaskId → List ℕ → List ℕ → List Help → List ℕ
+could_text v names tasks all who sees hs = could_lines v names tasks all who hs ++ last_line who sees (length hs)

@@ -4,3 +4,6 @@ pub mod Listed
 pub mod Remembered
 pub mod Recalling
 pub mod Could
+pub mod Programs
+pub mod Ending
+pub mod Laws

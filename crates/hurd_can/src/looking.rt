@@ -36,7 +36,7 @@ fn with_two(alloc: Global, who: &[TaskId], pair: Pair) -> Result<Vec<TaskId>, Al
 }
 
 /// What these tasks see together, in a box. Fails only if memory runs out.
-fn look<S: Server>(
+pub(crate) fn look<S: Server>(
     alloc: Global,
     nodes: &Nodes<S>,
     ports: &Ports,

@@ -29,6 +29,8 @@ pub struct Scene<'a> {
     pub tasks: &'a [TaskId],
     /// Those who could see, as they are called.
     pub who: &'a [u8],
+    /// That they see, as `alice sees`.
+    pub sees: &'a [u8],
 }
 
 /// Adds a number.
@@ -337,22 +339,22 @@ fn add_count(text: &mut Vec<u8>, who: &[u8], count: usize) -> Result<(), AllocEr
 }
 
 /// Adds what help is.
-fn add_help(text: &mut Vec<u8>, who: &[u8]) -> Result<(), AllocError>
-    ensures { OnOk result (text.new.items ≡ text.old.items ++ help_text who.now) }
+fn add_help(text: &mut Vec<u8>, sees: &[u8]) -> Result<(), AllocError>
+    ensures { OnOk result (text.new.items ≡ text.old.items ++ help_text sees.now) }
 {
     text.extend_from_slice(b"; help is any act that touches what ")?;
-    text.extend_from_slice(who)?;
-    text.extend_from_slice(b" see, meant or not\n")?;
+    text.extend_from_slice(sees)?;
+    text.extend_from_slice(b", meant or not\n")?;
     Ok(())
 }
 
 /// What is printed of these parts: a line for each, and how many there are. Fails only if memory runs out.
-pub fn could_text(alloc: Global, scene: &Scene<'_>, all: &[Helped]) -> Result<Bytes, AllocError>
-    ensures { IfOk result (λ text. text ≡ could_text scene.now.view.now scene.now.names.now (map seat_task scene.now.seats.now) scene.now.tasks.now scene.now.who.now all.now) }
+pub fn lines(alloc: Global, scene: &Scene<'_>, all: &[Helped]) -> Result<Bytes, AllocError>
+    ensures { IfOk result (λ text. text ≡ could_text scene.now.view.now scene.now.names.now (map seat_task scene.now.seats.now) scene.now.tasks.now scene.now.who.now scene.now.sees.now all.now) }
 {
     let mut text = Vec::new(alloc);
     add_lines(alloc, &mut text, scene, all)?;
     add_count(&mut text, scene.who, all.len())?;
-    add_help(&mut text, scene.who)?;
+    add_help(&mut text, scene.sees)?;
     Ok(Bytes::new(text))
 }

@@ -9,17 +9,19 @@ use Rattle.hurd_program.specs.declared.request.Request.{Request}
 use Rattle.hurd_program.specs.declared.request.TextSort.{TextSort}
 use Rattle.hurd_program.specs.declared.request.TextSort.TheVariants.{Script, Calls}
 use Rattle.hurd_program.specs.declared.request.Verb.{Verb}
-use Rattle.hurd_program.specs.declared.request.Verb.TheVariants.{Run, Learn, See, Draw}
+use Rattle.hurd_program.specs.declared.request.Verb.TheVariants.{Run, Learn, See, Can, Draw}
 
 -- a text that is too long is bad at line 0, whatever is asked of it
 limited_of : (sort : TextSort) (verb : Verb) → HasLimit (asked_of (sort_of sort) verb).bad (asked_of (sort_of sort) verb).complaint
 limited_of Script Run = scripts_limited
 limited_of Script (Learn who most) = scripts_limited
 limited_of Script (See who most) = scripts_limited
+limited_of Script (Can who every) = scripts_limited
 limited_of Script (Draw who) = scripts_limited
 limited_of Calls Run = lists_limited
 limited_of Calls (Learn who most) = lists_limited
 limited_of Calls (See who most) = lists_limited
+limited_of Calls (Can who every) = lists_limited
 limited_of Calls (Draw who) = lists_limited
 
 pub limited : (request : Request) → HasLimit (asked request).bad (asked request).complaint
@@ -30,4 +32,5 @@ pub complains : (sort : Sort) (verb : Verb) → sort.complaint ≡ (asked_of sor
 complains sort Run = refl
 complains sort (Learn who most) = refl
 complains sort (See who most) = refl
+complains sort (Can who every) = refl
 complains sort (Draw who) = refl

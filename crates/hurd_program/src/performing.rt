@@ -8,6 +8,7 @@ ghost use Rattle.hurd_program.specs.Requests.{asked, asked_of, sort_of};
 
 use crate::request::{Request, TextSort, Verb};
 use hurd_calls::RunningCalls;
+use hurd_can::could_text;
 use hurd_dialogue::{Telling, transcribe};
 use hurd_run::RunningScript;
 use hurd_teaching::{draw_text, learn_text, see_text};
@@ -16,7 +17,7 @@ use hurd_words::escapes::push_escaped;
 use std::alloc::{AllocError, Global};
 use std::io::{Read, Write};
 
-/// Does what is asked of a text of some sort. Faults as of `transcribe`, `learn_text`, `see_text` and `draw_text`.
+/// Does what is asked of a text of some sort. Faults as of `transcribe`, `learn_text`, `see_text`, `could_text` and `draw_text`.
 fn done_of<T: Telling, W: Write>(
     alloc: Global,
     verb: &Verb,
@@ -31,6 +32,7 @@ fn done_of<T: Telling, W: Write>(
         Verb::Run => transcribe::<T, W>(alloc, text, output),
         Verb::Learn { who, most } => learn_text::<T, W>(alloc, who.as_str(), *most, text, output),
         Verb::See { who, most } => see_text::<T, W>(alloc, who.as_str(), *most, text, output),
+        Verb::Can { who, every } => could_text::<T, W>(alloc, who.as_str(), *every, text, output),
         Verb::Draw { who } => draw_text::<T, W>(alloc, who, text, output),
     }
 }
@@ -106,7 +108,7 @@ pub(crate) fn stranger_line(alloc: Global, request: &Request) -> Result<Vec<u8>,
 {
     match &request.verb {
         Verb::Run => Ok(Vec::new(alloc)),
-        Verb::Learn { who, most: _ } | Verb::See { who, most: _ } => {
+        Verb::Learn { who, .. } | Verb::See { who, .. } | Verb::Can { who, .. } => {
             named_line(alloc, stranger(request.sort), who.as_str())
         }
         Verb::Draw { who: Some(who) } => named_line(alloc, stranger(request.sort), who.as_str()),

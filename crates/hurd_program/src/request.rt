@@ -19,6 +19,8 @@ pub enum Verb {
     Learn { who: String, most: Option<usize> },
     /// All that some see at the end, of which at most `most` bytes are printed.
     See { who: String, most: Option<usize> },
+    /// What could be shown some at the end, and with whose help: bytes, entries and nodes, or every part.
+    Can { who: String, every: bool },
     /// A picture of the world at the end; it is marked what some see, if any are named.
     Draw { who: Option<String> },
 }

@@ -5,3 +5,6 @@ returns-in-Run-clause-adds g c = rw c.in-Run.is c.transcribe.ensures.adds
 
 pub returns-in-Learn-clause-adds : goal.returns-in-Learn-clause-adds
 returns-in-Learn-clause-adds g c = rw c.in-Learn.is (rw c.as_str.ensures.value at c.learn_text.ensures.adds)
+
+pub returns-in-Can-clause-adds : goal.returns-in-Can-clause-adds
+returns-in-Can-clause-adds g c = rw c.in-Can.is (rw c.as_str-3.ensures.value at c.could_text.ensures.adds)
