@@ -12,6 +12,7 @@ const Page = {
   turn: 0,
   tabs: ["told", "sees", "beside"],
   timer: 0,
+  short_enough: 2000, // commands times users up to which the page asks what could be shown
   later: 0,
 
   is_list: () => $("sort").value === "list",
@@ -33,20 +34,22 @@ const Page = {
     const upto = at && whole.status === 0 ? this.cut(text, commands, at) : null;
     const seen = upto && turn === this.turn ? await this.run("see", upto, who) : null;
     const all = upto && turn === this.turn ? await this.run("see", upto, everyone) : null;
+    const could = upto && who && turn === this.turn && commands.length * users.size <= this.short_enough ? await this.run("can", upto, who) : null;
     const pair = turn === this.turn ? await Beside.run(text, who) : null;
     clearTimeout(slow);
     if (turn !== this.turn) return;
     $("stop").hidden = true;
     Beside.show(pair);
-    const failed = [whole, all, seen].find(run => run && (run.trap || run.status)) || whole;
+    const failed = [whole, all, seen, could].find(run => run && (run.trap || run.status)) || whole;
     if (!this.fault(failed, text)) { document.body.dataset.ready = "bad"; return; }
     const output = Read.output(Read.decoder.decode(whole.bytes));
     if (!Read.agrees(output.paragraphs, commands)) { this.nothing("The page can\u2019t tell which reply is to which command, so it shows none."); document.body.dataset.ready = "bad"; return; }
     this.mark(text, commands, at, -1);
     this.told(output, commands, at);
     const views = run => run && run.status === 0 ? Read.seen(Read.text(run.bytes)) : [];
-    this.draw(views(all), views(seen), users);
-    this.sees(views(seen), who, views(all));
+    const places = could && could.status === 0 ? Read.could(Read.text(could.bytes)) : new Map();
+    this.draw(views(all), views(seen), users, places);
+    this.sees(views(seen), who, views(all), places);
     if (gone.length) this.say(`${this.is_list() ? "Task " : ""}${this.short(Read.shown(gone.join(", ")), 60)} ${gone.length > 1 ? "aren't" : "isn't"} in the ${this.is_list() ? "call list" : "script"}.`, true);
     document.body.dataset.ready = "yes";
     this.remember();
@@ -168,9 +171,9 @@ const Page = {
     if (now) $("told").scrollTop = Math.max(0, Math.min(now.offsetTop - $("told").offsetTop - 8, now.offsetTop - $("told").offsetTop + now.offsetHeight - $("told").clientHeight / 2));
   },
 
-  draw(all, seen, users) {
+  draw(all, seen, users, could) {
     const names = new Map([...users].reverse().map(([name, uid]) => [uid, this.is_list() ? "task " + name : Read.plain(name)]));
-    $("picture").replaceChildren(Tree.draw(Read.rows(all), Read.rows(seen), names) || element("p", "", "Nothing has been done yet."));
+    $("picture").replaceChildren(Tree.draw(Read.rows(all), Read.rows(seen), names, could) || element("p", "", "Nothing has been done yet."));
   },
 
   sees_caption(who) {
@@ -179,15 +182,19 @@ const Page = {
   },
 
   // what everybody together sees, and the chosen ones don't: the places alone
-  unseen(seen, all) {
+  unseen(seen, all, could) {
     const own = new Set(seen.map(([place]) => place)), places = all.map(([place]) => place).filter(place => place.startsWith("/") && !own.has(place)), most = 2000;
     if (!places.length) return [];
     const list = element("ul");
-    list.append(...places.slice(0, most).map(place => element("li", "", this.short(place, 20000))));
+    list.append(...places.slice(0, most).map(place => {
+      const item = element("li", "", this.short(place, 20000));
+      for (const { part, helpers } of could.get(place) || []) item.append(element("span", "could", `${part}: ${this.short(helpers, 2000)}`));
+      return item;
+    }));
     return [element("h3", "", "Not seen"), list, ...(places.length > most ? [element("p", "sum", `${places.length - most} more are not listed.`)] : [])];
   },
 
-  sees(seen, who, all) {
+  sees(seen, who, all, could) {
     const table = element("table"), body = element("tbody");
     table.append(element("caption", "", seen.length ? this.sees_caption(who) : "Nothing is shown before the first command."), body);
     const most = 2000;
@@ -203,7 +210,7 @@ const Page = {
       row.append(rest);
       body.append(row);
     }
-    $("sees").replaceChildren(table, ...this.unseen(seen, all));
+    $("sees").replaceChildren(table, ...this.unseen(seen, all, could));
   },
 
   go(at) { this.at = Math.max(0, at); return this.show(); },

@@ -165,6 +165,19 @@ const Read = {
     return { at: bad ? Number(bad[1]) - 1 : -1, why: this.sentence(said) };
   },
 
+  // what could be shown: of each place its parts, each with those whose help would be enough, and with whoever saw it before
+  could(text) {
+    const places = new Map();
+    for (const line of text.split("\n")) {
+      const found = /^  \S.* could see: (.*): (bytes|entries|attributes): (with .*)$/.exec(line);
+      if (found) places.set(found[1], [...places.get(found[1]) || [], { part: found[2], helpers: found[3] }]);
+    }
+    return places;
+  },
+
+  // whether somebody other than root could show a part
+  is_help: ({ helpers }) => helpers.split("; ")[0].split(", or ").some(set => set !== "with root"),
+
   // what is seen, one row for each node and each server
   rows(seen) {
     const rows = [];

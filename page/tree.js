@@ -63,8 +63,8 @@ const Tree = {
     ].filter(text => text).join("  ");
   },
 
-  // rows of what everybody together sees, rows of what the chosen ones see, and the names of uids
-  draw(all, seen, names) {
+  // rows of what everybody together sees, rows of what the chosen ones see, the names of uids, and what could be shown of each place
+  draw(all, seen, names, could) {
     const grown = this.grow(all), { servers, below, root, loose } = grown;
     if (!root) return null;
     const marks = new Map();
@@ -80,9 +80,10 @@ const Tree = {
     const pill = (node, name, x, middle) => {
       const shown = this.clip(Read.plain(name), 32), width = 20 + this.letter * shown.length, note = this.note(node, names), mark = marks.get(node.path) || "unseen";
       const words = { open: "its contents are seen", rim: "only its attributes are seen", unseen: "it is not seen" };
+      const parts = could.get(node.place) || [], helped = parts.map(({ part, helpers }) => `\n${part} could be shown ${helpers}`).join("");
       places.set(node.path, { x, middle });
-      pills.push(this.make("g", { class: "node " + mark, "data-path": node.path },
-        this.make("title", {}, node.place + ": " + words[mark] + ": " + node.says),
+      pills.push(this.make("g", { class: "node " + mark + (parts.some(Read.is_help) ? " could" : ""), "data-path": node.path },
+        this.make("title", {}, node.place + ": " + words[mark] + ": " + node.says + helped),
         this.make("rect", { x, y: middle - 10, width, height: 20, rx: node.kind === "d" ? 4 : 10 }),
         this.make("text", { x: x + 10, y: middle + 4 }, shown),
         this.make("text", { class: "note", x: x + width + 8, y: middle + 4 }, note)));
@@ -129,13 +130,14 @@ const Tree = {
     }
     const tip = this.make("marker", { id: "tip", viewBox: "0 0 6 6", refX: 6, refY: 3, markerWidth: 6, markerHeight: 6, orient: "auto" }, this.make("path", { class: "tip", d: "M0 0L6 3L0 6z" }));
     const rows_drawn = [...grown.nodes.values()];
-    return this.make("svg", { width: Math.ceil(wide), height: y + 8, viewBox: `0 0 ${Math.ceil(wide)} ${y + 8}`, role: "img", "aria-label": this.told(rows_drawn, marks) },
+    return this.make("svg", { width: Math.ceil(wide), height: y + 8, viewBox: `0 0 ${Math.ceil(wide)} ${y + 8}`, role: "img", "aria-label": this.told(rows_drawn, marks, could) },
       this.make("defs", {}, tip), ...boxes, ...ways, ...arcs, ...pills);
   },
 
   // the picture in words, for whoever cannot see it
-  told(nodes, marks) {
+  told(nodes, marks, could) {
+    const helped = nodes.filter(row => (could.get(row.place) || []).some(Read.is_help)).length;
     const open = nodes.filter(row => marks.get(row.path) === "open").length, rim = nodes.filter(row => marks.get(row.path) === "rim").length;
-    return `The tree has ${nodes.length} nodes. The contents of ${open} are seen; of ${rim}, only the attributes are seen; ${nodes.length - open - rim} are not seen. The tab "Everything seen" lists both.`;
+    return `The tree has ${nodes.length} nodes. The contents of ${open} are seen; of ${rim}, only the attributes are seen; ${nodes.length - open - rim} are not seen. Of ${helped}, users other than root could show more. The tab "Everything seen" lists all of this.`;
   },
 };

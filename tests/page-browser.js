@@ -294,7 +294,15 @@ async function main() {
 
     // what others see and she doesn't; the keys; a text that was edited, and a user who is gone for a while
     await open("example=learned-secret.hurd&who=alice");
-    says("what is not seen", await value(`[...document.querySelectorAll("#sees li")].map(it => it.textContent).join()`) === "/home/bob/diary");
+    says("what is not seen", await value(`[...document.querySelectorAll("#sees li")].map(it => it.firstChild.textContent).join()`) === "/home/bob/diary");
+    await open("example=two-keys.hurd&who=alice");
+    const letter = "with bob and carol, or with carol and dave, or with root", shows = await value(`JSON.stringify({
+      listed: [...document.querySelectorAll("#sees li")].filter(it => it.firstChild.textContent === "/home/bob/carol/letter").flatMap(it => [...it.querySelectorAll(".could")].map(part => part.textContent.split("; ")[0])),
+      marked: document.querySelector('[data-path="/home/bob/carol/letter"]').getAttribute("class"), titled: document.querySelector('[data-path="/home/bob/carol/letter"] title').textContent,
+      seen: document.querySelector('[data-path="/tmp"]').getAttribute("class") })`);
+    says("what could be shown: " + shows, JSON.stringify(JSON.parse(shows).listed) === JSON.stringify([`bytes: ${letter}`, `attributes: ${letter}`]) && JSON.parse(shows).marked === "node unseen could"
+      && JSON.parse(shows).titled.includes(`\nbytes could be shown ${letter}`) && JSON.parse(shows).seen === "node open");
+    await open("example=learned-secret.hurd&who=alice");
     const press = letter => value(`document.body.dispatchEvent(new KeyboardEvent("keydown", { key: "${letter}", bubbles: true }))`).then(ready).then(() => value(`document.getElementById("at").value`));
     const at = await value(`document.getElementById("at").value`), back = await press("k");
     await value(`document.getElementById("keys").click()`);

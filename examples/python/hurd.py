@@ -339,7 +339,7 @@ def see(text: Text, who: Text, sort: int = Sort.SCRIPT) -> str:
     return _printed(_library.hurd_see, sort, text, who)
 
 
-def can(text: Text, who: Text, every: bool = False, sort: int = Sort.SCRIPT) -> str:
+def can(text: Text, who: Text, sort: int = Sort.SCRIPT, *, every: bool = False) -> str:
     """What `who` could be shown at the end of a text, and by whose help, as `hurd can` prints it.
 
     It lists bytes, entries and nodes; with `every` it lists every part, as `hurd can --all` does. Raises what `learn` raises.
