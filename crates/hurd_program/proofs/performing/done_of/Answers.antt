@@ -7,4 +7,4 @@ pub returns-in-Learn-clause-adds : goal.returns-in-Learn-clause-adds
 returns-in-Learn-clause-adds g c = rw c.in-Learn.is (rw c.as_str.ensures.value at c.learn_text.ensures.adds)
 
 pub returns-in-Can-clause-adds : goal.returns-in-Can-clause-adds
-returns-in-Can-clause-adds g c = rw c.in-Can.is (rw c.as_str-3.ensures.value at c.could_text.ensures.adds)
+returns-in-Can-clause-adds g c = rw c.in-Can.is (rw c.as_str-in-Can.ensures.value at c.could_text.ensures.adds)
