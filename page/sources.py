@@ -45,7 +45,7 @@ def files():
         for at, inner, names in os.walk(os.path.join(TOP, folder)):
             inner[:] = [name for name in inner if name not in MADE]
             found.extend(os.path.relpath(os.path.join(at, name), TOP) for name in names)
-    return sorted(name for name in found if not name.endswith((".html", ".transcript", ".learned")) or name == os.path.join("page", "index.html"))
+    return sorted(name for name in found if not name.endswith((".html", ".transcript", ".learned", ".could")) or name == os.path.join("page", "index.html"))
 
 
 def total():
