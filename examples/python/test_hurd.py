@@ -161,11 +161,11 @@ def test_what_alice_could_be_shown() -> None:
 
 def test_can() -> None:
     """The parts are bytes, entries and nodes, or every part; help is that of users, or of tasks."""
-    script, last = "user alice - -\nroot mkdir -m 700 /d\n", "; help is any act that touches what alice see, meant or not"
-    entries = "  alice could see: /d: entries: with root"
-    assert hurd.can(script, "alice") == f"{entries}\nalice could be shown 1 part{last}\n"
+    script, last = "user alice - -\nroot put /f x\nroot chmod 600 /f\n", "; help is any act that touches what alice sees, meant or not"
+    bytes_line = "  alice could see: /f: bytes: with root; seen before by alice"
+    assert hurd.can(script, "alice") == f"{bytes_line}\nalice could be shown 1 part{last}\n"
     lines = hurd.can(script, "alice", every=True).splitlines()
-    assert lines[0] == entries and len(lines) > 2
+    assert lines[0] == bytes_line and len(lines) > 2
     assert lines[-1] == f"alice could be shown {len(lines) - 1} parts{last}"
     assert hurd.can(TASKS + "0 dir_mkdir 1 =d 700", "1", sort=Sort.CALLS).startswith("  task 1 could see: /d: entries: with task 0\ntask 1 could be shown 1 part; ")
 

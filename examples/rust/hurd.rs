@@ -210,7 +210,7 @@ fn main() -> Result<(), Box<dyn error::Error>> {
     out.write_all(&run(Sort::Script, script)?)?;
     out.write_all(&learn(Sort::Script, script, b"alice")?)?;
     out.write_all(&see(Sort::Calls, b"task - -", b"0")?)?;
-    out.write_all(&can(Sort::Script, b"user alice - -\nroot mkdir -m 700 /d\n", b"alice", false)?)?;
+    out.write_all(&can(Sort::Script, b"user alice - -\nroot put /f x\nroot chmod 600 /f\n", b"alice", false)?)?;
     writeln!(out, "a picture: {} bytes", draw(Sort::Script, b"", b"")?.len())?;
 
     let refused = [world.make(b"nonsense"), world.make(b"task 0 0"), run(Sort::Script, b"root frob /"), learn(Sort::Script, script, b"bob")];
