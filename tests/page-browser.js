@@ -299,7 +299,7 @@ async function main() {
     const letter = "with bob and carol, or with carol and dave, or with root", shows = await value(`JSON.stringify({
       listed: [...document.querySelectorAll("#sees li")].filter(it => it.firstChild.textContent === "/home/bob/carol/letter").flatMap(it => [...it.querySelectorAll(".could")].map(part => part.textContent.split("; ")[0])),
       marked: document.querySelector('[data-path="/home/bob/carol/letter"]').getAttribute("class"), titled: document.querySelector('[data-path="/home/bob/carol/letter"] title').textContent,
-      seen: document.querySelector('[data-path="/tmp"]').getAttribute("class") })`);
+      seen: document.querySelector('[data-path="/home"]').getAttribute("class") })`);
     says("what could be shown: " + shows, JSON.stringify(JSON.parse(shows).listed) === JSON.stringify([`bytes: ${letter}`, `attributes: ${letter}`]) && JSON.parse(shows).marked === "node unseen could"
       && JSON.parse(shows).titled.includes(`\nbytes could be shown ${letter}`) && JSON.parse(shows).seen === "node open");
     await open("example=learned-secret.hurd&who=alice");
