@@ -1,9 +1,9 @@
 /* Steps of a program over the library, a word each. begin=TEXT, make=TEXT, watch=WHO, told=FROM and end are about a world that is kept; run=TEXT, learn=TEXT, see=TEXT,
-   can=TEXT and draw=TEXT about a whole text. Behind each but `end` stand the bytes that were copied, if any may be, and a line that says how it ended. room=N, sort=N,
-   who=WHO and every=N say what the later steps are given, and file=NAME where the next text stands.
+   can=TEXT and draw=TEXT about a whole text. After each except `end` it prints the bytes that were copied, if any may be, and a line that says how it ended. room=N,
+   sort=N, who=WHO and every=N say what the later steps are given, and file=NAME which file has the next text.
 
-   Each text and each room has a block of its own of that size, so that who looks at the memory sees a byte too many. Bytes behind those that were copied should be
-   as they were. With the first word `on` the program goes on where memory is refused, else it says so and ends. */
+   Each text and each room has a block of its own of that size, so that a tool which checks memory sees a byte too many. Bytes after those that were copied should
+   be as they were. With the first word `on` the program goes on if memory is refused; without it, it says so and ends. */
 #include "hurd.h"
 #include <stdio.h>
 #include <stdlib.h>
@@ -46,13 +46,13 @@ static uint8_t *block(size_t size)
     return got;
 }
 
-/* Prints what was copied; the bytes behind it should be as they were. */
+/* Prints what was copied; the bytes after it should be as they were. */
 static void show(size_t count)
 {
     fwrite(out, 1, count, stdout);
     for (size_t i = count; i < room; i++)
         if (out[i] != FILLED) {
-            puts("a byte behind those that were copied was changed");
+            puts("a byte after those that were copied was changed");
             end(3);
         }
 }
@@ -114,8 +114,8 @@ static size_t take(const char *word)
     return size;
 }
 
-/* What a step says behind its name, if it has this one. */
-static const char *behind(const char *word, const char *name)
+/* What a step says after its name, if it has this one. */
+static const char *said_by(const char *word, const char *name)
 {
     size_t size = strlen(name);
     return strncmp(word, name, size) || word[size] != '=' ? NULL : word + size + 1;
@@ -135,7 +135,7 @@ static int step_of_text(const char *word)
         { "run", NULL }, { "learn", hurd_learn }, { "see", hurd_see }, { "can", could }, { "draw", hurd_draw }
     };
     for (size_t i = 0; i < sizeof all / sizeof *all; i++) {
-        const char *rest = behind(word, all[i].name);
+        const char *rest = said_by(word, all[i].name);
         if (!rest)
             continue;
         size_t size = take(rest);
@@ -153,21 +153,21 @@ static int step_of_world(const char *word)
     const char *rest;
     if (!strcmp(word, "end"))
         hurd_end(&world);
-    else if ((rest = behind(word, "told"))) {
+    else if ((rest = said_by(word, "told"))) {
         fill();
         size_t count = hurd_told(&world, strtoul(rest, NULL, 10), out, room);
         show(count);
         printf("[%zu]\n", count);
         give_up();
-    } else if ((rest = behind(word, "begin"))) {
+    } else if ((rest = said_by(word, "begin"))) {
         size_t size = take(rest);
         fill();
         say(hurd_begin(&world, text, size, out, room));
-    } else if ((rest = behind(word, "make"))) {
+    } else if ((rest = said_by(word, "make"))) {
         size_t size = take(rest);
         fill();
         say(hurd_make(&world, text, size, out, room));
-    } else if ((rest = behind(word, "watch"))) {
+    } else if ((rest = said_by(word, "watch"))) {
         size_t size = take(rest);
         say_end(hurd_watch(&world, text, size));
     } else
@@ -181,15 +181,15 @@ static void step(const char *word)
     const char *rest;
     if (!strcmp(word, "on"))
         goes_on = 1;
-    else if ((rest = behind(word, "room")))
+    else if ((rest = said_by(word, "room")))
         room = strtoul(rest, NULL, 10);
-    else if ((rest = behind(word, "sort")))
+    else if ((rest = said_by(word, "sort")))
         sort = strtoul(rest, NULL, 10);
-    else if ((rest = behind(word, "who")))
+    else if ((rest = said_by(word, "who")))
         who = rest;
-    else if ((rest = behind(word, "every")))
+    else if ((rest = said_by(word, "every")))
         every = strtoul(rest, NULL, 10);
-    else if ((rest = behind(word, "file")))
+    else if ((rest = said_by(word, "file")))
         file = rest;
     else if (!step_of_world(word) && !step_of_text(word)) {
         printf("no such step: %s\n", word);
