@@ -101,12 +101,19 @@ fn can<'a>(alloc: Global) -> Result<Command<'a>, AllocError> {
         .long("all")
         .action(ArgAction::SetTrue)
         .help("List every part, not only bytes, entries and nodes");
+    let how = Arg::new(alloc, "how")
+        .long("how")
+        .action(ArgAction::SetTrue)
+        .help(
+            "After each line, print a script for each set of helpers that would show it (scripts only; slow)",
+        );
     verb(
         alloc,
         "can",
         "Print what WHO could be shown at the end, and by whose help",
     )?
     .arg(all)?
+    .arg(how)?
     .arg(most_output(alloc))?
     .arg(word(alloc, "WHO", WHO))?
     .arg(word(alloc, "FILE", FILE))

@@ -54,7 +54,7 @@ pub enum Asked {
 pub enum Unasked {
     /// Vectors are asked for, and not of a list.
     NoList,
-    /// Witnesses are asked for, and of a list.
+    /// Ways that users could go are asked for, and of a list.
     NoScript,
     /// A seed is no number that one can be.
     Seed,
@@ -202,6 +202,10 @@ fn sort_of(matches: &ArgMatches<'_>, file: &String) -> TextSort {
 fn request_of(alloc: Global, verb: &str, matches: &ArgMatches<'_>) -> Result<Asked, Unasked> {
     let file = text_of(alloc, matches, "FILE")?;
     let sort = sort_of(matches, &file);
+    let how = verb == "can" && matches.get_flag("how");
+    if how && matches!(sort, TextSort::Calls) {
+        return Err(Unasked::NoScript);
+    }
     let verb = match verb {
         "learn" => Verb::Learn {
             who: text_of(alloc, matches, "WHO")?,
@@ -214,6 +218,7 @@ fn request_of(alloc: Global, verb: &str, matches: &ArgMatches<'_>) -> Result<Ask
         "can" => Verb::Can {
             who: text_of(alloc, matches, "WHO")?,
             every: matches.get_flag("all"),
+            how,
         },
         "draw" => Verb::Draw {
             who: named_by(alloc, matches)?,

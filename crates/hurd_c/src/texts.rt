@@ -1,5 +1,5 @@
 //! Whole texts: what C calls to have one told in a world of its own.
-ghost use Rattle.std.specs.Prelude.{◌≡◌, ◌==◌, not, IsUtf8, MatchResult, None, option_map, string_bytes};
+ghost use Rattle.std.specs.Prelude.{◌≡◌, ◌==◌, false, not, IsUtf8, MatchResult, None, option_map, string_bytes};
 ghost use Rattle.hurd_can.specs.Programs.{could};
 ghost use Rattle.hurd_dialogue.specs.Sorts.{running};
 ghost use Rattle.hurd_teaching.specs.Drawings.{drawing};
@@ -122,7 +122,7 @@ pub extern "C" fn hurd_can(
     every: u32,
     out: &mut [u8],
 ) -> Said
-    ensures { OfSome who.now sort (λ s. could s (not (every == 0)) who.now) text.now result out.old out.new }
+    ensures { OfSome who.now sort (λ s. could s (not (every == 0)) false who.now) text.now result out.old out.new }
 {
     let Some(sort) = sort_at(sort) else {
         return no_sort();
@@ -130,7 +130,11 @@ pub extern "C" fn hurd_can(
     match named(alloc, who) {
         Ok(who) => {
             let every = every != 0;
-            let verb = Verb::Can { who, every };
+            let verb = Verb::Can {
+                who,
+                every,
+                how: false,
+            };
             told(alloc, &Request { sort, verb }, text, out)
         }
         Err(fault) => ending(Err(fault), 0),

@@ -1,5 +1,5 @@
 -- Things of which each became another: one more, all, and what each of those became in turn.
-use Rattle.std.proofs.Common.{◌≡◌, ℕ, zero, suc, ◌+◌, ◌<◌, add-one, arith, List, [], ◌∷◌, length, get_or, refl, sym, ap, subst, ◌∙◌}
+use Rattle.std.proofs.Common.{◌≡◌, ℕ, zero, suc, ◌+◌, ◌<◌, add-one, arith, List, [], ◌∷◌, length, get_or, refl, ap}
 use Rattle.std.specs.Prelude.{◌++◌, drop, slice_set, take}
 use Rattle.hurd_can.specs.Remembered.{Each}
 

@@ -1,7 +1,6 @@
 -- What is found out at the end of a text, and on the way to it.
-use Rattle.std.proofs.Common.{◌≡◌, ◌⊎◌, inl, inr, ℕ, zero, suc, ◌+◌, ◌<◌, add-one, arith, Bool, true, false, true≢false, List, [], ◌∷◌, Result, Ok, Err, map, length, get_or, refl, sym, ap, subst, ◌∙◌}
-use Rattle.std.specs.Prelude.{IfOk, OnOk, ◌↔◌, ◌++◌, if◌then◌else◌, not, take}
-use Rattle.std.proofs.lemmas.Bool.{cases_Bool}
+use Rattle.std.proofs.Common.{◌≡◌, inl, inr, ℕ, zero, suc, ◌+◌, ◌<◌, add-one, arith, Bool, true, false, true≢false, List, [], ◌∷◌, Result, map, length, get_or, refl, sym, ap, subst, ◌∙◌}
+use Rattle.std.specs.Prelude.{OnOk, ◌++◌, if◌then◌else◌, not, take}
 use Rattle.hurd_creds.specs.declared.name.TaskId.{TaskId}
 use Rattle.hurd_dialogue.specs.Parts.{Goes, Part, Way}
 use Rattle.hurd_words.specs.declared.answers.Answer.{Answer}
@@ -33,14 +32,14 @@ use Rattle.hurd_sight.specs.declared.looks.Sight.{Sight}
 use Rattle.hurd_sight.specs.declared.parts.SeenPart.{SeenPart}
 use Rattle.hurd_views.specs.declared.view.View.{View}
 use Rattle.hurd_views.specs.Views.{Views}
-use Rattle.hurd_can.specs.Could.{could_text}
 use Rattle.hurd_can.specs.Ending.{HelpsAtEnd}
 use Rattle.hurd_can.specs.Help.{AreHelped, Help, Picks}
 use Rattle.hurd_can.specs.Listed.{Unseen, kept_if}
-use Rattle.hurd_can.specs.Programs.{IsCould, could, others_of, worlds_from}
+use Rattle.hurd_can.specs.Programs.{IsCould, asked, could, others_of, worlds_from}
 use Rattle.hurd_can.specs.Remembered.{Each, Remembers}
+use Rattle.hurd_can.specs.Saying.{Asked, SaysAll}
 use Rattle.hurd_can.proofs.EachLaws.{each_next}
-use Rattle.hurd_can.proofs.HelpLaws.{append_none, look_exact}
+use Rattle.hurd_can.proofs.HelpLaws.{look_exact}
 use Rattle.hurd_can.proofs.RecallLaws.{more_worlds}
 
 -- of the tasks one more
@@ -96,30 +95,30 @@ left_none start here last tasks old now none same left =
 pub numbered : (seats : List TaskSeat) (all : List Task) (tasks : List TaskId) → map seat_task seats ≡ all → tasks ≡ tasks_below (length seats) → tasks ≡ all_tasks all
 numbered seats all tasks rows is = is ∙ ap tasks_below (sym (length-map seats seat_task) ∙ ap length rows)
 
-module _ (sort : Sort) (every : Bool) (text word : List ℕ) (way again : Way) (begins : Begins sort text way) (anew : Begins sort text again) (learners : Learners)
+module _ (sort : Sort) (every how : Bool) (text word : List ℕ) (way again : Way) (begins : Begins sort text way) (anew : Begins sort text again) (learners : Learners)
     (named : Named (tasks_named way.finds word) (sort.called word) (drop way.heading (asks_of (lines_of text))) (starts_of way.heading (lines_of text)) (Some learners)) where
   -- what could be shown was printed, or a front of it
   pub could_adds : {W : Type 0} (output : Output W) (was : Bool) (before after : Option (List ℕ)) (ended : Result (Unit {0}) Fault) (whole : List ℕ)
-      → IsCould way.names learners.tasks.items learners.names.items learners.sees.items every (worlds_from again.world again.left) (world_behind way.world way.left) whole → OnOk ended (Appends before after whole × (output.failed ≡ was))
-      → IfErr ended (λ fault. (fault ≡ Write) × (output.failed ≡ true) × AppendsFront before after whole) → Adds (could sort every word) text before after ended
+      → IsCould (asked sort how text way.names learners) every (worlds_from again.world again.left) (world_behind way.world way.left) whole → OnOk ended (Appends before after whole × (output.failed ≡ was))
+      → IfErr ended (λ fault. (fault ≡ Write) × (output.failed ≡ true) × AppendsFront before after whole) → Adds (could sort every how word) text before after ended
   could_adds output was before after ended whole found ok err =
       let are = these sort text word way begins learners named in
-      let there : IsCould (sort.names text) learners.tasks.items learners.names.items learners.sees.items every (worlds_from (sort.world text) (sort.parts text)) (last_world sort text) whole =
+      let there : IsCould (asked sort how text (sort.names text) learners) every (worlds_from (sort.world text) (sort.parts text)) (last_world sort text) whole =
       rw (begins.names, begins.world, begins.left, anew.world, anew.left) at found in
-      adds_piece (could sort every word) output was before after text whole ended (record { good = begins.good; known = ap is_some are.tasks }) (learners, are, there) (λ front is. (whole, (learners, are, there), is)) ok err
+      adds_piece (could sort every how word) output was before after text whole ended (record { good = begins.good; known = ap is_some are.tasks }) (learners, are, there) (λ front is. (whole, (learners, are, there), is)) ok err
 
 -- what was found out and noted is what could be shown
-pub could_be : (names : List (List ℕ)) (who : List TaskId) (called sees : List ℕ) (every : Bool) (ws : List World) (w : World) (view : View) (tasks : List TaskId) (helps noted : List Help) (text : List ℕ)
-    → tasks ≡ all_tasks w.tasks → Views tasks w view → HelpsAtEnd w view who tasks every helps → Each (Remembers ws view tasks) helps noted → text ≡ could_text view names w.tasks tasks called sees noted
-    → IsCould names who called sees every ws w text
-could_be names who called sees every ws w view tasks helps noted text are views helped remembered is = record {
+pub could_be : (a : Asked) (every : Bool) (ws : List World) (w : World) (view : View) (tasks : List TaskId) (helps noted : List Help) (text : List ℕ)
+    → tasks ≡ all_tasks w.tasks → Views tasks w view → HelpsAtEnd w view a.who tasks every helps → Each (Remembers ws view tasks) helps noted → SaysAll a view w.tasks tasks noted text
+    → IsCould a every ws w text
+could_be a every ws w view tasks helps noted text are views helped remembered says = record {
   view = view;
   all = subst (λ (ts : List TaskId). Views ts w view) are views;
   parts = helped.0;
   unseen = helped.1;
   helps = helps;
-  helped = subst (λ (ts : List TaskId). AreHelped w who (others_of who ts) helped.0 helps) are helped.2;
+  helped = subst (λ (ts : List TaskId). AreHelped w a.who (others_of a.who ts) helped.0 helps) are helped.2;
   noted = noted;
   remembered = subst (λ (ts : List TaskId). Each (Remembers ws view ts) helps noted) are remembered;
-  is = is ∙ ap (λ (ts : List TaskId). could_text view names w.tasks ts called sees noted) are;
+  says = subst (λ (ts : List TaskId). SaysAll a view w.tasks ts noted text) are says;
 }

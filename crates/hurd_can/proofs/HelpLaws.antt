@@ -1,5 +1,5 @@
 -- Helpers that are tried one after another, and what is noted of them.
-use Rattle.std.proofs.Common.{◌≡◌, ◌⊎◌, inl, inr, ℕ, suc, zero, Bool, true, false, true≢false, List, [], ◌∷◌, ◌+◌, ◌-◌, ◌<◌, add-one, arith, length, get_or, Option, Some, Result, Ok, Err, map, refl, sym, ap, subst, ◌∙◌}
+use Rattle.std.proofs.Common.{◌≡◌, inl, inr, ℕ, suc, zero, Bool, true, false, true≢false, List, [], ◌∷◌, ◌+◌, ◌-◌, ◌<◌, add-one, arith, length, get_or, Some, Result, Ok, Err, map, refl, sym, ap, subst, ◌∙◌}
 use Rattle.std.specs.Prelude.{OnOk, ◌↔◌, ◌&&◌, ◌++◌, if◌then◌else◌, not, drop, slice_get, slice_set, take}
 use Rattle.std.proofs.lemmas.Bool.{cases_Bool}
 use Rattle.std.proofs.lemmas.List.{length-drop}
@@ -171,7 +171,7 @@ module _ (w : World) (who : List TaskId) where
         (first.0 ++ next.0, next.1 ∙ (ap (λ l. l ++ next.0) first.1 ∙ append_append h.twos first.0 next.0), picks_append (AreEnoughFor w who h) ps qs first.0 next.0 first.2 picks);
   }
 
-  -- whoever is picked is enough, and the other way round; so a pair of whom neither is picked is one of whom neither is enough
+  -- whoever is picked is enough, and the other way round; so if neither of a pair is picked, neither is enough alone
   pair_enough : (p : SeenPart) (others : List TaskId) (h : Help) → h.part ≡ p → Picks (IsEnough w who p) others h.ones → (pair : Pair) → IsAmong pair (pairs_of others)
       → AreEnoughFor w who h pair ↔ AreEnough w who p pair
   pair_enough p others h is picks pair i = (

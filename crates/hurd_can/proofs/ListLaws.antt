@@ -1,15 +1,11 @@
 -- The parts that are listed, one thing after another.
-use Rattle.std.proofs.Common.{◌≡◌, ℕ, zero, suc, ◌+◌, ◌<◌, add-one, arith, List, [], ◌∷◌, length, get_or, Bool, Result, Ok, Err, refl, sym, ap, ◌∙◌}
+use Rattle.std.proofs.Common.{◌≡◌, ℕ, zero, suc, ◌+◌, ◌<◌, add-one, arith, List, [], ◌∷◌, length, get_or, Bool, Result, Ok, Err, sym, ap, ◌∙◌}
 use Rattle.std.specs.Prelude.{OnOk, ◌++◌, slice_get, take}
 use Rattle.std.specs.declared.alloc.AllocError.{AllocError}
 use Rattle.hurd_creds.specs.declared.name.Name.{Name}
-use Rattle.hurd_creds.specs.declared.name.TaskId.{TaskId}
-use Rattle.hurd_ports.specs.Tables.{Task}
 use Rattle.hurd_sight.specs.declared.parts.SeenPart.{SeenPart}
 use Rattle.hurd_views.specs.declared.rows.Row.{Row}
 use Rattle.hurd_views.specs.declared.view.View.{View}
-use Rattle.hurd_can.specs.Could.{could_line, could_lines}
-use Rattle.hurd_can.specs.Help.{Help}
 use Rattle.hurd_can.specs.Listed.{kept_if, part_if, parts_at, parts_in, parts_of}
 use Rattle.hurd_can.specs.declared.listing.Group.{Group}
 use Rattle.hurd_can.proofs.HelpLaws.{append_append, append_none}
@@ -43,16 +39,3 @@ join start mid end first rest a b = b ∙ (ap (λ l. l ++ rest) a ∙ append_app
 pub join_ok : (start mid end first rest : List ℕ) (r : Result (Unit {0}) AllocError) → mid ≡ start ++ first → OnOk r (end ≡ mid ++ rest) → OnOk r (end ≡ start ++ (first ++ rest))
 join_ok start mid end first rest (Ok u) a b = join start mid end first rest a b
 join_ok start mid end first rest (Err e) a b = tt
-
--- lines of some parts, and of one more
-module _ (v : View) (names : List (List ℕ)) (tasks : List Task) (all : List TaskId) (who : List ℕ) where
-  lines_next : (hs : List Help) (i : ℕ) (d : Help) → i < length hs
-      → could_lines v names tasks all who (take (suc i) hs) ≡ could_lines v names tasks all who (take i hs) ++ could_line v names tasks all who (get_or hs i d)
-  lines_next [] i d lt = absurd (omega arith)
-  lines_next (h ∷ hs) zero d lt = sym (append_none (could_line v names tasks all who h))
-  lines_next (h ∷ hs) (suc i) d lt = ap (λ l. could_line v names tasks all who h ++ l) (lines_next hs i d (omega arith)) ∙ sym (append_append (could_line v names tasks all who h) _ _)
-
-  pub lines_more : (hs : List Help) (i : ℕ) (d : Help) (start old new : List ℕ) → i < length hs → old ≡ start ++ could_lines v names tasks all who (take i hs)
-      → new ≡ old ++ could_line v names tasks all who (get_or hs i d) → new ≡ start ++ could_lines v names tasks all who (take (i + 1) hs)
-  lines_more hs i d start old new lt was is =
-      rw add-one (is ∙ (ap (λ l. l ++ could_line v names tasks all who (get_or hs i d)) was ∙ (append_append start _ _ ∙ ap (λ l. start ++ l) (sym (lines_next hs i d lt)))))

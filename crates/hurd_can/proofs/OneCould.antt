@@ -1,6 +1,6 @@
 -- Of a text one text is printed of what could be shown: views are one, and so is what is picked, and who is told to have seen a part before.
-use Rattle.std.proofs.Common.{◌≡◌, ◌∙◌, ◌⊎◌, inl, inr, sym, refl, ap, ap₂, subst, suc, ℕ, Bool, true, false, List, [], ◌∷◌, map, length}
-use Rattle.std.specs.Prelude.{◌↔◌, ◌++◌, ◌&&◌, Option, Vec, if◌then◌else◌, not}
+use Rattle.std.proofs.Common.{◌≡◌, ◌∙◌, inl, inr, sym, refl, ap, ap₂, subst, suc, ℕ, Bool, true, false, List, [], ◌∷◌, map, length}
+use Rattle.std.specs.Prelude.{◌++◌, ◌&&◌, Option, Vec, if◌then◌else◌, not}
 use Rattle.std.specs.Global.{Global}
 use Rattle.std.specs.declared.vec.Vec.{ok-type}
 use Rattle.hurd_creds.specs.declared.name.TaskId.{TaskId}
@@ -13,19 +13,24 @@ use Rattle.hurd_sight.specs.declared.parts.SeenPart.{SeenPart}
 use Rattle.hurd_teaching.proofs.OneText.{alike}
 use Rattle.hurd_teaching.specs.Owners.{all_tasks}
 use Rattle.hurd_teaching.specs.Programs.{PrintsOneText}
-use Rattle.hurd_teaching.specs.declared.learners.Learners.{Learners}
 use Rattle.hurd_terminal.specs.Faults.{IsFront}
-use Rattle.hurd_views.specs.Views.{IsOneView, Views}
+use Rattle.hurd_views.specs.Views.{IsOneView}
 use Rattle.hurd_views.specs.declared.view.View.{View}
 use Rattle.hurd_views.proofs.OneView.{views_are_one}
-use Rattle.hurd_can.specs.Could.{before_more, before_text, could_line, could_lines, could_text, helpers_text, last_line, line_head, line_tail, part_place, part_word}
+use Rattle.hurd_can.specs.Could.{before_more, before_text, could_line, helpers_text, last_line, line_head, line_tail, part_place, part_word}
 use Rattle.hurd_can.specs.Help.{AreEnough, AreHelped, Help, IsEnough, IsHelped, Picks, pairs_of}
 use Rattle.hurd_can.specs.Listed.{Unseen, listed}
-use Rattle.hurd_can.specs.Programs.{CouldAtEnd, IsCould, could, others_of, worlds_from}
-use Rattle.hurd_can.specs.Remembered.{Each, Remembers, SawBefore, SawIn}
+use Rattle.hurd_can.specs.Programs.{CouldAtEnd, IsCould, asked, could, others_of, worlds_from}
+use Rattle.hurd_can.specs.Remembered.{Each, Remembers, SawBefore}
+use Rattle.hurd_can.specs.Saying.{Asked, SaysAll, SaysPart, SaysWays}
+use Rattle.hurd_can.specs.Tried.{AllSaid, SaysWay, ShowsWith, way_text}
+use Rattle.hurd_can.specs.Ways.{path_of, set_name, sets_of, way_by_all, way_by_helpers}
 use Rattle.hurd_can.specs.declared.helped.Pair.{Pair}
+use Rattle.hurd_can.specs.declared.ways.HelpSet.{HelpSet}
 use Rattle.hurd_can.proofs.PickLaws.{picks_once}
 use Rattle.hurd_can.proofs.RecallLaws.{same_rows}
+use Rattle.hurd_can.proofs.SaidLaws.{all_said_as, all_said_once}
+use Rattle.hurd_can.proofs.TriedLaws.{first_once}
 
 -- a list that is kept in memory, with other things in it that are the same
 abbrev moved : {X : Type 0} (x : Vec X Global) (ys : List X) → x.items ≡ ys → Vec X Global
@@ -56,10 +61,24 @@ same_seen a b are = λ j. record a {
   count = are.one.count j;
 }
 
--- what is printed goes by what is told of a view
-by_view : (a b : View) (names : List (List ℕ)) (tasks : List Task) (all : List TaskId) (who sees : List ℕ) (hs : List Help) → AreOne a b
-    → could_text a names tasks all who sees hs ≡ could_text b names tasks all who sees hs
-by_view a b names tasks all who sees hs are = ap (λ (v : View). could_text v names tasks all who sees hs) (same_seen a b are)
+-- what is said goes by what is told of a view
+line_by_view : (a b : View) (names : List (List ℕ)) (tasks : List Task) (all : List TaskId) (who : List ℕ) (h : Help) → AreOne a b → could_line a names tasks all who h ≡ could_line b names tasks all who h
+line_by_view a b names tasks all who h are = ap (λ (v : View). could_line v names tasks all who h) (same_seen a b are)
+
+path_by_view : (a b : View) (p : SeenPart) → AreOne a b → path_of (part_place a p) ≡ path_of (part_place b p)
+path_by_view a b p are = ap (λ (v : View). path_of (part_place v p)) (same_seen a b are)
+
+ways_by_view : (how : Bool) (a b : View) (asks : Asked) (tasks : List Task) (h : Help) (text : List ℕ) → AreOne a b → SaysWays how asks a tasks h text → SaysWays how asks b tasks h text
+ways_by_view false a b asks tasks h text are says = says
+ways_by_view true a b asks tasks h text are says =
+    subst (λ (path : List ℕ). AllSaid (SaysWay asks.sort asks.script asks.names asks.who h.part path) (sets_of tasks h.ones h.twos) text) (path_by_view a b h.part are) says
+
+part_by_view : (a b : View) (asks : Asked) (tasks : List Task) (all : List TaskId) (h : Help) (text : List ℕ) → AreOne a b → SaysPart asks a tasks all h text → SaysPart asks b tasks all h text
+part_by_view a b asks tasks all h text are (ways, is, says) =
+    (ways, is ∙ ap (λ (l : List ℕ). l ++ ways) (line_by_view a b asks.names tasks all asks.called h are), ways_by_view asks.how a b asks tasks h ways are says)
+
+by_view : (a b : View) (asks : Asked) (tasks : List Task) (all : List TaskId) (hs : List Help) (text : List ℕ) → AreOne a b → SaysAll asks a tasks all hs text → SaysAll asks b tasks all hs text
+by_view a b asks tasks all hs text are (said, each, is) = (said, all_said_as (SaysPart asks a tasks all) (SaysPart asks b tasks all) (λ h t says. part_by_view a b asks tasks all h t are says) hs said each, is)
 
 listed_once : (every : Bool) (a b : View) → AreOne a b → listed every a ≡ listed every b
 listed_once every a b are = ap (λ (v : View). listed every v) (same_seen a b are)
@@ -117,44 +136,64 @@ line_alike : (v : View) (names : List (List ℕ)) (tasks : List Task) (all : Lis
 unfolding line_of
 line_alike v names tasks all who x y are = λ i. line_of v names tasks who (are.part i) (are.ones i) (are.twos i) (before_alike names x y are [] all i)
 
-lines_alike : (v : View) (names : List (List ℕ)) (tasks : List Task) (all : List TaskId) (who : List ℕ) (R S : Help → Help → Type 0) → ((h x y : Help) → R h x → S h y → AreAlike x y)
-    → (hs xs ys : List Help) → Each R hs xs → Each S hs ys → could_lines v names tasks all who xs ≡ could_lines v names tasks all who ys
-lines_alike v names tasks all who R S same [] xs ys is too = ap (could_lines v names tasks all who) (is ∙ sym too)
-lines_alike v names tasks all who R S same (h ∷ hs) xs ys (x, us, is, r, rest) (y, vs, too, s, more) =
-    ap (could_lines v names tasks all who) is
-    ∙ (ap₂ (λ (l ls : List ℕ). l ++ ls) (line_alike v names tasks all who x y (same h x y r s)) (lines_alike v names tasks all who R S same hs us vs rest more) ∙ ap (could_lines v names tasks all who) (sym too))
+-- of a set of helpers one thing is said
+ways_once : (sort : Sort) (script : List ℕ) (names : List (List ℕ)) (who : List TaskId) (p : SeenPart) (path : List ℕ) (set : HelpSet) (s t : List ℕ) → SaysWay sort script names who p path set s
+    → SaysWay sort script names who p path set t → s ≡ t
+ways_once sort script names who p path set s t (v, found, is) (w, other, too) =
+    is ∙ (ap (λ (way : Option (List (List ℕ))). way_text (set_name names set) way)
+    (first_once (ShowsWith sort who p script) (way_by_helpers names set path) (way_by_all names set who path) v w found other) ∙ sym too)
+
+ways_alike : (how : Bool) (a : Asked) (v : View) (tasks : List Task) (x y : Help) → AreAlike x y → (s t : List ℕ) → SaysWays how a v tasks x s → SaysWays how a v tasks y t → s ≡ t
+ways_alike false a v tasks x y are s t said too = said ∙ sym too
+ways_alike true a v tasks x y are s t said too =
+    let same = coe 0 1 (i. AllSaid (SaysWay a.sort a.script a.names a.who (are.part i) (path_of (part_place v (are.part i)))) (sets_of tasks (are.ones i) (are.twos i)) s) said in
+    all_said_once (SaysWay a.sort a.script a.names a.who y.part (path_of (part_place v y.part))) (ways_once a.sort a.script a.names a.who y.part (path_of (part_place v y.part))) (sets_of tasks y.ones y.twos) s t same too
+
+part_alike : (a : Asked) (v : View) (tasks : List Task) (all : List TaskId) (x y : Help) → AreAlike x y → (s t : List ℕ) → SaysPart a v tasks all x s → SaysPart a v tasks all y t → s ≡ t
+part_alike a v tasks all x y are s t (ways, is, said) (others, too, more) =
+    is ∙ (ap₂ (λ (l ls : List ℕ). l ++ ls) (line_alike v a.names tasks all a.called x y are) (ways_alike a.how a v tasks x y are ways others said more) ∙ sym too)
+
+all_alike : (a : Asked) (v : View) (tasks : List Task) (all : List TaskId) (R S : Help → Help → Type 0) → ((h x y : Help) → R h x → S h y → AreAlike x y)
+    → (hs xs ys : List Help) (s t : List ℕ) → Each R hs xs → Each S hs ys → AllSaid (SaysPart a v tasks all) xs s → AllSaid (SaysPart a v tasks all) ys t → s ≡ t
+all_alike a v tasks all R S same [] xs ys s t is too p q =
+    subst (λ (zs : List Help). AllSaid (SaysPart a v tasks all) zs s) is p ∙ sym (subst (λ (zs : List Help). AllSaid (SaysPart a v tasks all) zs t) too q)
+all_alike a v tasks all R S same (h ∷ hs) xs ys s t (x, us, is, r, rest) (y, vs, too, o, more) p q =
+    let one = subst (λ (zs : List Help). AllSaid (SaysPart a v tasks all) zs s) is p in
+    let two = subst (λ (zs : List Help). AllSaid (SaysPart a v tasks all) zs t) too q in
+    one.2 ∙ (ap₂ (λ (l ls : List ℕ). l ++ ls) (part_alike a v tasks all x y (same h x y r o) one.0 two.0 one.3 two.3)
+    (all_alike a v tasks all R S same hs us vs one.1 two.1 rest more one.4 two.4) ∙ sym two.2)
 
 each_length : (R : Help → Help → Type 0) (hs xs : List Help) → Each R hs xs → length xs ≡ length hs
 each_length R [] xs is = ap length is
 each_length R (h ∷ hs) xs (x, us, is, r, rest) = ap length is ∙ ap suc (each_length R hs us rest)
 
 -- one text is printed of a world and of those before it
-could_once : (names : List (List ℕ)) (who : List TaskId) (called sees : List ℕ) (every : Bool) (ws : List World) (w : World) (s t : List ℕ)
-    → IsCould names who called sees every ws w s → IsCould names who called sees every ws w t → s ≡ t
-could_once names who called sees every ws w s t x y =
+could_once : (a : Asked) (every : Bool) (ws : List World) (w : World) (s t : List ℕ) → IsCould a every ws w s → IsCould a every ws w t → s ≡ t
+could_once a every ws w s t x y =
     let all = all_tasks w.tasks in
     let one = views_are_one all w x.view y.view x.all y.all in
     let are : AreOne x.view y.view = record { ours = x.all.ours ∙ sym y.all.ours; one = one } in
     let parts : x.parts ≡ y.parts =
-    picks_once (Unseen w who) (listed every y.view) x.parts y.parts (subst (λ (ps : List SeenPart). Picks (Unseen w who) ps x.parts) (listed_once every x.view y.view are) x.unseen) y.unseen in
+    picks_once (Unseen w a.who) (listed every y.view) x.parts y.parts (subst (λ (ps : List SeenPart). Picks (Unseen w a.who) ps x.parts) (listed_once every x.view y.view are) x.unseen) y.unseen in
     let helps : x.helps ≡ y.helps =
-    helped_once w who (others_of who all) y.parts x.helps y.helps (subst (λ (ps : List SeenPart). AreHelped w who (others_of who all) ps x.helps) parts x.helped) y.helped in
+    helped_once w a.who (others_of a.who all) y.parts x.helps y.helps (subst (λ (ps : List SeenPart). AreHelped w a.who (others_of a.who all) ps x.helps) parts x.helped) y.helped in
     let noted : Each (Remembers ws x.view all) y.helps x.noted = subst (λ (hs : List Help). Each (Remembers ws x.view all) hs x.noted) helps x.remembered in
-    let lines = lines_alike y.view names w.tasks all called (Remembers ws x.view all) (Remembers ws y.view all) (λ h a b. both ws x.view y.view all h a b one.rows) y.helps x.noted y.noted noted y.remembered in
+    let says = by_view x.view y.view a w.tasks all x.noted s are x.says in
+    let said = all_alike a y.view w.tasks all (Remembers ws x.view all) (Remembers ws y.view all) (λ h b c. both ws x.view y.view all h b c one.rows) y.helps x.noted y.noted says.0 y.says.0 noted y.remembered says.1 y.says.1 in
     let counts : length x.noted ≡ length y.noted = each_length _ y.helps x.noted noted ∙ sym (each_length _ y.helps y.noted y.remembered) in
-    x.is ∙ (by_view x.view y.view names w.tasks all called sees x.noted are
-    ∙ (ap₂ (λ (ls : List ℕ) (n : ℕ). ls ++ last_line called sees n) lines counts ∙ sym y.is))
+    says.2 ∙ (ap₂ (λ (ls : List ℕ) (n : ℕ). ls ++ last_line a.called a.sees n) said counts ∙ sym y.says.2)
 
 -- the same tasks are called the same
-for_once : (sort : Sort) (every : Bool) (word text s t : List ℕ) → CouldAtEnd sort every word text s → CouldAtEnd sort every word text t → s ≡ t
-for_once sort every word text s t x y =
+for_once : (sort : Sort) (every how : Bool) (word text s t : List ℕ) → CouldAtEnd sort every how word text s → CouldAtEnd sort every how word text t → s ≡ t
+for_once sort every how word text s t x y =
     let same = alike _ _ _ _ x.0 y.0 x.1 y.1 in
-    let by : List TaskId → List ℕ → List ℕ → Type 0 = λ tasks names sees. IsCould (sort.names text) tasks names sees every (worlds_from (sort.world text) (sort.parts text)) (last_world sort text) t in
-    could_once (sort.names text) x.0.tasks.items x.0.names.items x.0.sees.items every (worlds_from (sort.world text) (sort.parts text)) (last_world sort text) s t x.2
+    let by : List TaskId → List ℕ → List ℕ → Type 0 =
+    λ tasks called sees. IsCould (record { sort = sort; script = text; names = sort.names text; who = tasks; called = called; sees = sees; how = how }) every (worlds_from (sort.world text) (sort.parts text)) (last_world sort text) t in
+    could_once (asked sort how text (sort.names text) x.0) every (worlds_from (sort.world text) (sort.parts text)) (last_world sort text) s t x.2
     (coe 0 1 (i. by (sym same.tasks i) (sym same.names i) (sym same.sees i)) y.2)
 
-pub one_could : (sort : Sort) (every : Bool) (word : List ℕ) → PrintsOneText (could sort every word)
-one_could sort every word = record {
-  one = λ text s t x y. for_once sort every word text s t x y;
-  front = λ text s t x y. subst (IsFront s) (for_once sort every word text x.0 t x.1 y) x.2;
+pub one_could : (sort : Sort) (every how : Bool) (word : List ℕ) → PrintsOneText (could sort every how word)
+one_could sort every how word = record {
+  one = λ text s t x y. for_once sort every how word text s t x y;
+  front = λ text s t x y. subst (IsFront s) (for_once sort every how word text x.0 t x.1 y) x.2;
 }

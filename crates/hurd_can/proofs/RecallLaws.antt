@@ -1,6 +1,6 @@
 -- Who saw a part before, one task and one world after another.
 use Rattle.std.proofs.Common.{◌≡◌, ◌⊎◌, inl, inr, ℕ, ◌+◌, ◌<◌, add-one, true, List, [], ◌∷◌, Result, Ok, Err, length, get_or, refl, sym, ap, subst, ◌∙◌}
-use Rattle.std.specs.Prelude.{OnOk, ◌↔◌, ◌++◌, take}
+use Rattle.std.specs.Prelude.{OnOk, ◌++◌, take}
 use Rattle.std.specs.declared.alloc.AllocError.{AllocError}
 use Rattle.hurd_creds.specs.declared.name.TaskId.{TaskId}
 use Rattle.hurd_machine.specs.World.{IsAmong, World}

@@ -1,7 +1,6 @@
 -- What is printed of who could help to see what.
-use Rattle.std.specs.Prelude.{ℕ, zero, suc, Bool, true, false, not, ◌&&◌, ◌==◌, if◌then◌else◌, List, [], ◌∷◌, ◌++◌, length, Option, Some, None, codes, decimal, slice_get}
+use Rattle.std.specs.Prelude.{ℕ, Bool, true, false, not, ◌&&◌, ◌==◌, if◌then◌else◌, List, [], ◌∷◌, ◌++◌, Option, Some, None, codes, decimal, slice_get}
 use Rattle.hurd_creds.specs.Access.{is_root}
-use Rattle.hurd_creds.specs.declared.name.Name.{Name}
 use Rattle.hurd_creds.specs.declared.name.TaskId.{TaskId}
 use Rattle.hurd_ports.specs.Tables.{Task}
 use Rattle.hurd_places.specs.Places.{place_of}
@@ -106,11 +105,6 @@ abbrev pub could_line : View → List (List ℕ) → List Task → List TaskId �
 could_line v names tasks all who h =
     line_head who (part_place v h.part) (part_word v h.part) ++ line_tail (helpers_text names tasks h) (before_text names h [] all)
 
--- the lines of these parts
-abbrev pub could_lines : View → List (List ℕ) → List Task → List TaskId → List ℕ → List Help → List ℕ
-could_lines v names tasks all who [] = []
-could_lines v names tasks all who (h ∷ hs) = could_line v names tasks all who h ++ could_lines v names tasks all who hs
-
 -- one part, or several
 abbrev pub parts_word : ℕ → List ℕ
 parts_word count = if count == 1 then codes " part" else codes " parts"
@@ -124,7 +118,3 @@ help_text sees = codes "; help is any act that touches what " ++ (sees ++ codes 
 
 abbrev pub last_line : List ℕ → List ℕ → ℕ → List ℕ
 last_line who sees count = count_text who count ++ help_text sees
-
--- all that is printed of those who are called so, and see, in words
-abbrev pub could_text : View → List (List ℕ) → List Task → List TaskId → List ℕ → List ℕ → List Help → List ℕ
-could_text v names tasks all who sees hs = could_lines v names tasks all who hs ++ last_line who sees (length hs)

@@ -1,5 +1,5 @@
 -- What the lines of what could be shown mean.
-use Rattle.std.specs.Prelude.{◌↔◌, ℕ, Bool, List}
+use Rattle.std.specs.Prelude.{◌↔◌, ℕ, Bool, List, Some}
 use Rattle.hurd_creds.specs.declared.name.TaskId.{TaskId}
 use Rattle.hurd_dialogue.specs.Sorts.{Sort}
 use Rattle.hurd_machine.specs.World.{IsAmong, World}
@@ -7,6 +7,7 @@ use Rattle.hurd_sight.specs.declared.parts.SeenPart.{SeenPart}
 use Rattle.hurd_teaching.specs.Programs.{PrintsOneText}
 use Rattle.hurd_can.specs.Help.{AreEnough, Help, IsEnough, IsHelped, pairs_of}
 use Rattle.hurd_can.specs.Programs.{could}
+use Rattle.hurd_can.specs.Tried.{FirstTried, ShowsWith}
 use Rattle.hurd_can.specs.declared.helped.Pair.{Pair}
 
 -- one of the others is a helper exactly where his help is enough, and two of them are a pair exactly where theirs is, and neither's alone
@@ -18,4 +19,10 @@ HelpersAreExact =
 
 -- of a text one such text is printed
 abbrev pub OneCouldIsPrinted : Type 0
-OneCouldIsPrinted = (sort : Sort) (every : Bool) (word : List ℕ) → PrintsOneText (could sort every word)
+OneCouldIsPrinted = (sort : Sort) (every how : Bool) (word : List ℕ) → PrintsOneText (could sort every how word)
+
+-- a script that is found, without the lines that can be left out, shows the part
+abbrev pub FoundWaysShow : Type 0
+FoundWaysShow =
+    (sort : Sort) (who : List TaskId) (p : SeenPart) (text : List ℕ) (one other lines : List (List ℕ))
+    → FirstTried (ShowsWith sort who p text) one other (Some lines) → ShowsWith sort who p text lines

@@ -4,6 +4,9 @@ pub mod Listed
 pub mod Remembered
 pub mod Recalling
 pub mod Could
+pub mod Ways
+pub mod Tried
+pub mod Saying
 pub mod Programs
 pub mod Ending
 pub mod Laws

@@ -6,7 +6,7 @@ use Rattle.hurd_machine.specs.Sight.{Sees}
 use Rattle.hurd_sight.specs.Parts.{part_of}
 use Rattle.hurd_sight.specs.Reach.{among}
 use Rattle.hurd_sight.specs.declared.parts.SeenPart.{SeenPart}
-use Rattle.hurd_can.specs.Help.{Help, IsEnough, AreEnough, Picks}
+use Rattle.hurd_can.specs.Help.{Help, IsEnough, Picks}
 use Rattle.hurd_can.specs.declared.helped.Pair.{Pair}
 
 -- a part without helpers

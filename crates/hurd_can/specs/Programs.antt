@@ -1,5 +1,5 @@
 -- The program that prints who could help those that WHO names to see what.
-use Rattle.std.specs.Prelude.{◌≡◌, ℕ, Bool, true, false, not, if◌then◌else◌, List, [], ◌∷◌, ◌++◌, codes, is_some, map}
+use Rattle.std.specs.Prelude.{ℕ, Bool, if◌then◌else◌, List, [], ◌∷◌, ◌++◌, codes, is_some, map}
 use Rattle.hurd_creds.specs.declared.name.TaskId.{TaskId}
 use Rattle.hurd_dialogue.specs.Parts.{Part}
 use Rattle.hurd_dialogue.specs.Sorts.{Sort, last_world}
@@ -15,47 +15,56 @@ use Rattle.hurd_terminal.specs.Runs.{Program}
 use Rattle.hurd_views.specs.Views.{Views}
 use Rattle.hurd_views.specs.declared.view.View.{View}
 use Rattle.hurd_words.specs.Escapes.{escaped}
-use Rattle.hurd_can.specs.Could.{could_text}
 use Rattle.hurd_can.specs.Help.{AreHelped, Help, Picks}
 use Rattle.hurd_can.specs.Listed.{Unseen, listed}
 use Rattle.hurd_can.specs.Remembered.{Each, Remembers}
+use Rattle.hurd_can.specs.Saying.{Asked, SaysAll}
+use Rattle.hurd_can.specs.declared.coulds.Asking.{Asking}
 
 -- those of these tasks that are none of those
 abbrev pub others_of : List TaskId → List TaskId → List TaskId
 others_of who [] = []
 others_of who (t ∷ ts) = if among who t.0 then others_of who ts else t ∷ others_of who ts
 
--- a text is what could be shown those who are called so, in the world w: of the parts that are listed of what all its tasks see together, those that they don't see,
--- each with the others who could help to see it now, and with those who saw it so in one of these worlds
-pub record IsCould (names : List (List ℕ)) (who : List TaskId) (called sees : List ℕ) (every : Bool) (worlds : List World) (w : World) (text : List ℕ) : Type 0 where
+-- a text is what could be shown those who are asked of, in the world w: of the parts that are listed of what all its tasks see together, those that they don't see,
+-- each with the others who could help to see it now, and with those who saw it so in one of these worlds; and with the ways to show it, if they are wanted
+pub record IsCould (a : Asked) (every : Bool) (worlds : List World) (w : World) (text : List ℕ) : Type 0 where
   pub view : View
   pub all : Views (all_tasks w.tasks) w view
   pub parts : List SeenPart
-  pub unseen : Picks (Unseen w who) (listed every view) parts
+  pub unseen : Picks (Unseen w a.who) (listed every view) parts
   pub helps : List Help
-  pub helped : AreHelped w who (others_of who (all_tasks w.tasks)) parts helps
+  pub helped : AreHelped w a.who (others_of a.who (all_tasks w.tasks)) parts helps
   pub noted : List Help
   pub remembered : Each (Remembers worlds view (all_tasks w.tasks)) helps noted
-  pub is : text ≡ could_text view names w.tasks (all_tasks w.tasks) called sees noted
+  pub says : SaysAll a view w.tasks (all_tasks w.tasks) noted text
 
 -- a world, and the worlds after these parts
 abbrev pub worlds_from : World → List Part → List World
 worlds_from w parts = w ∷ map (λ (p : Part). p.world) parts
 
+-- those of a text who are to see something
+abbrev pub asked : Sort → Bool → List ℕ → List (List ℕ) → Learners → Asked
+asked sort how text names learners =
+    record { sort = sort; script = text; names = names; who = learners.tasks.items; called = learners.names.items; sees = learners.sees.items; how = how }
+
+abbrev pub asking_of : Sort → Asking → Asked
+asking_of sort a = asked sort a.how a.script.now a.names.now a.learners.now
+
 -- what could be shown those that WHO names, at the end of a text
-abbrev pub CouldAtEnd : Sort → Bool → List ℕ → List ℕ → List ℕ → Type 0
-CouldAtEnd sort every word text printed =
+abbrev pub CouldAtEnd : Sort → Bool → Bool → List ℕ → List ℕ → List ℕ → Type 0
+CouldAtEnd sort every how word text printed =
     (learners : Learners) × AreThese sort word text learners
-    × IsCould (sort.names text) learners.tasks.items learners.names.items learners.sees.items every (worlds_from (sort.world text) (sort.parts text)) (last_world sort text) printed
+    × IsCould (asked sort how text (sort.names text) learners) every (worlds_from (sort.world text) (sort.parts text)) (last_world sort text) printed
 
 -- the program that prints it
-abbrev pub could : Sort → Bool → List ℕ → Program
-could sort every word = record {
+abbrev pub could : Sort → Bool → Bool → List ℕ → Program
+could sort every how word = record {
   complaint = sort.complaint;
   stranger = sort.stranger ++ (escaped word ++ codes "\n");
   bad = sort.bad;
   boot = sort.boot;
   known = λ text. is_some (tasks_named (sort.finds text) word);
-  IsAll = CouldAtEnd sort every word;
-  IsPart = λ text printed. (all : List ℕ) × CouldAtEnd sort every word text all × IsFront printed all;
+  IsAll = CouldAtEnd sort every how word;
+  IsPart = λ text printed. (all : List ℕ) × CouldAtEnd sort every how word text all × IsFront printed all;
 }

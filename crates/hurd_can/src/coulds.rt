@@ -5,16 +5,17 @@ ghost use Rattle.hurd_teaching.specs.Owners.{all_tasks};
 ghost use Rattle.hurd_terminal.specs.Runs.{Adds};
 ghost use Rattle.hurd_world.specs.Held.{world_of};
 ghost use Rattle.hurd_sight.specs.Reach.{among};
-ghost use Rattle.hurd_can.specs.Could.{could_text};
-ghost use Rattle.hurd_can.specs.Programs.{IsCould, could, others_of, worlds_from};
+ghost use Rattle.hurd_can.specs.Programs.{IsCould, asking_of, could, others_of, worlds_from};
 ghost use Rattle.hurd_can.specs.Remembered.{Each, Remembers};
+ghost use Rattle.hurd_can.specs.Saying.{SaysAll};
 ghost use Rattle.hurd_can.specs.Ending.{HelpsAtEnd};
 
 use crate::helped::Helped;
 use crate::listing::unseen;
 use crate::looking::{helpers_of, look};
 use crate::remembering::remember;
-use crate::text::{Scene, lines};
+use crate::saying::lines;
+use crate::text::Scene;
 use hurd_creds::{Bytes, TaskId};
 use hurd_dialogue::{Telling, play_silently};
 use hurd_teaching::{Learners, all_tasks, copied_names, learners_of, view_of};
@@ -24,6 +25,21 @@ use hurd_views::View;
 use hurd_world::World;
 use std::alloc::{AllocError, Global};
 use std::io::Write;
+
+/// What is asked of a text.
+#[derive(Clone, Copy)]
+pub struct Asking<'a> {
+    /// The names of its tasks, if they have names.
+    pub names: &'a [Bytes],
+    /// Those who are to see.
+    pub learners: &'a Learners,
+    /// Whether all other parts are listed too.
+    pub every: bool,
+    /// Whether ways are wanted.
+    pub how: bool,
+    /// The text.
+    pub script: &'a [u8],
+}
 
 /// Whether a task is one of these.
 fn is_among(tasks: &[TaskId], task: TaskId) -> bool
@@ -101,26 +117,29 @@ fn remember_all<T: Telling>(
 }
 
 /// What could be shown those who are called so, in lines.
-fn lines_of<S: Server>(
+fn lines_of<S: Server, T: Telling>(
     alloc: Global,
     world: &World<S>,
     view: &View,
-    names: &[Bytes],
+    asking: &Asking<'_>,
     tasks: &[TaskId],
-    learners: &Learners,
     all: &[Helped],
 ) -> Result<Bytes, AllocError>
-    ensures { IfOk result (λ text. text ≡ could_text view.now names.now (world_of S.meaning world.now).tasks tasks.now learners.now.names.items learners.now.sees.items all.now) }
+    ensures { IfOk result (λ text. SaysAll (asking_of T.sort asking.now) view.now (world_of S.meaning world.now).tasks tasks.now all.now text) }
 {
+    let learners = asking.learners;
     let scene = Scene {
         view,
-        names,
+        names: asking.names,
         seats: world.core().ports().seats(),
         tasks,
         who: learners.names.as_slice(),
         sees: learners.sees.as_slice(),
+        learners: learners.tasks.as_slice(),
+        how: asking.how,
+        script: asking.script,
     };
-    lines(alloc, &scene, all)
+    lines::<T>(alloc, &scene, all)
 }
 
 /// What could be shown some in a world, whose tasks are these, by who could help now, and by who saw it while the same text goes to its end once more.
@@ -128,19 +147,17 @@ fn looked<S: Server, T: Telling>(
     alloc: Global,
     world: &World<S>,
     again: &mut T,
-    learners: &Learners,
-    names: &[Bytes],
+    asking: &Asking<'_>,
     tasks: &[TaskId],
-    every: bool,
 ) -> Result<Bytes, AllocError>
     requires { tasks.now ≡ all_tasks (world_of S.meaning world.now).tasks }
-    ensures { IfOk result (λ text. IsCould names.now learners.now.tasks.items learners.now.names.items learners.now.sees.items every (worlds_from (T.way again.old).world (T.way again.old).left) (world_of S.meaning world.now) text) }
+    ensures { IfOk result (λ text. IsCould (asking_of T.sort asking.now) asking.now.every (worlds_from (T.way again.old).world (T.way again.old).left) (world_of S.meaning world.now) text) }
 {
     let view = view_of(alloc, world, tasks)?;
-    let who = learners.tasks.as_slice();
-    let mut all = helped_now(alloc, world, &view, who, tasks, every)?;
+    let who = asking.learners.tasks.as_slice();
+    let mut all = helped_now(alloc, world, &view, who, tasks, asking.every)?;
     remember_all(alloc, again, &view, &mut all, tasks)?;
-    lines_of(alloc, world, &view, names, tasks, learners, all.as_slice())
+    lines_of::<S, T>(alloc, world, &view, asking, tasks, all.as_slice())
 }
 
 /// What could be shown some at the end of a text that was begun twice. Fails only if memory runs out.
@@ -148,29 +165,20 @@ fn could_at_end<T: Telling>(
     alloc: Global,
     telling: &mut T,
     again: &mut T,
-    learners: &Learners,
-    every: bool,
+    asking: &Asking<'_>,
 ) -> Result<Bytes, AllocError>
-    ensures { IfOk result (λ text. IsCould (T.way telling.old).names learners.now.tasks.items learners.now.names.items learners.now.sees.items every (worlds_from (T.way again.old).world (T.way again.old).left)
+    ensures { IfOk result (λ text. IsCould (asking_of T.sort asking.now) asking.now.every (worlds_from (T.way again.old).world (T.way again.old).left)
         (world_behind (T.way telling.old).world (T.way telling.old).left) text) }
 {
-    let names = copied_names(alloc, telling.names())?;
     play_silently(alloc, telling)?;
     let world = telling.world();
     let tasks = all_tasks(alloc, world.core().ports().seats())?;
-    looked(
-        alloc,
-        world,
-        again,
-        learners,
-        names.as_slice(),
-        tasks.as_slice(),
-        every,
-    )
+    looked(alloc, world, again, asking, tasks.as_slice())
 }
 
 /// Begins a text, goes to its end, and prints what could be shown those that WHO names: a line for each part that is listed and that they don't see, with the others
-/// who could help, and those who saw it before. Bytes, entries and nodes are listed, and all other parts if these are wanted.
+/// who could help, and those who saw it before. Bytes, entries and nodes are listed, and all other parts if these are wanted. If ways are wanted, the line is followed
+/// by one for each set of helpers, and by a script of theirs that shows the part at the end of the text, if one was found.
 ///
 /// `Bad` with the line at which it is bad, `Boot` with its world's refusal, `Unknown` if somebody is named who isn't in it, `Memory`: then nothing is printed.
 /// `Write`: then a prefix of it is.
@@ -178,10 +186,11 @@ pub fn could_text<T: Telling, W: Write>(
     alloc: Global,
     word: &str,
     every: bool,
+    how: bool,
     text: &[u8],
     output: &mut Output<W>,
 ) -> Result<(), Fault>
-    ensures adds { Adds (could T.sort every word.now) text.now (W.contents output.old.writer) (W.contents output.new.writer) result }
+    ensures adds { Adds (could T.sort every how word.now) text.now (W.contents output.old.writer) (W.contents output.new.writer) result }
     ensures read { result ≢ Err Fault.Read }
     ensures write { result ≡ Err Fault.Write → output.new.failed ≡ true }
 {
@@ -190,6 +199,14 @@ pub fn could_text<T: Telling, W: Write>(
         return Err(Fault::Unknown);
     };
     let mut again = T::begun(alloc, text)?;
-    let said = could_at_end(alloc, &mut *telling, &mut *again, &learners, every)?;
+    let names = copied_names(alloc, telling.names())?;
+    let asking = Asking {
+        names: names.as_slice(),
+        learners: &learners,
+        every,
+        how,
+        script: text,
+    };
+    let said = could_at_end(alloc, &mut *telling, &mut *again, &asking)?;
     output.print(said.as_slice())
 }

@@ -145,7 +145,7 @@ fn unhelped(alloc: Global, parts: &[SeenPart]) -> Result<Vec<Helped>, AllocError
     Ok(all)
 }
 
-/// For each of these parts, who of the others could help some tasks to see it: alone, or in pairs of whom neither is enough alone. Fails only if memory runs out.
+/// For each of these parts, who of the others could help some tasks to see it: alone, or in pairs, if neither of the two is enough alone. Fails only if memory runs out.
 pub fn helpers_of<S: Server>(
     alloc: Global,
     nodes: &Nodes<S>,

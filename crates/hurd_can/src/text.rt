@@ -3,7 +3,7 @@ ghost use Rattle.std.specs.Prelude.{◌≡◌, ◌&&◌, ◌++◌, [], ◌∷◌
 ghost use Rattle.hurd_ports.specs.Seats.{seat_task};
 ghost use Rattle.hurd_places.specs.Places.{place_of};
 ghost use Rattle.hurd_sight.specs.Reach.{among};
-ghost use Rattle.hurd_can.specs.Could.{before_more, before_text, could_line, could_lines, could_text, count_text, help_text, helpers_text, is_root_task, is_wanted, line_head, line_tail, or_more, part_place, part_word, parts_word, task_name, with_ones, with_twos};
+ghost use Rattle.hurd_can.specs.Could.{before_more, before_text, could_line, count_text, help_text, helpers_text, is_root_task, is_wanted, line_head, line_tail, or_more, part_place, part_word, parts_word, task_name, with_ones, with_twos};
 
 use crate::helped::{Helped, Pair};
 use crate::listing::{body_at, has_entries};
@@ -31,6 +31,12 @@ pub struct Scene<'a> {
     pub who: &'a [u8],
     /// That they see, as `alice sees`.
     pub sees: &'a [u8],
+    /// Their tasks.
+    pub learners: &'a [TaskId],
+    /// Whether the ways are looked for, by which helpers could show a part.
+    pub how: bool,
+    /// The script that is told.
+    pub script: &'a [u8],
 }
 
 /// Adds a number.
@@ -43,7 +49,7 @@ fn push_decimal(text: &mut Vec<u8>, number: usize) -> Result<(), AllocError>
 }
 
 /// Adds a task by its name, or by its number if it has none.
-fn push_task(text: &mut Vec<u8>, names: &[Bytes], task: TaskId) -> Result<(), AllocError>
+pub(crate) fn push_task(text: &mut Vec<u8>, names: &[Bytes], task: TaskId) -> Result<(), AllocError>
     ensures { OnOk result (text.new.items ≡ text.old.items ++ task_name names.now task) }
 {
     match names.get(task.0 as usize) {
@@ -56,7 +62,7 @@ fn push_task(text: &mut Vec<u8>, names: &[Bytes], task: TaskId) -> Result<(), Al
 }
 
 /// Whether a task has the uid of root.
-fn is_root_task(seats: &[TaskSeat], task: TaskId) -> bool
+pub(crate) fn is_root_task(seats: &[TaskSeat], task: TaskId) -> bool
     ensures { result ≡ is_root_task (map seat_task seats.now) task }
 {
     match seats.get(task.0 as usize) {
@@ -66,7 +72,7 @@ fn is_root_task(seats: &[TaskSeat], task: TaskId) -> bool
 }
 
 /// Whether a test comes out as it is wanted.
-fn is_wanted(wanted: bool, holds: bool) -> bool
+pub(crate) fn is_wanted(wanted: bool, holds: bool) -> bool
     ensures { result ≡ is_wanted wanted holds }
 {
     if wanted { holds } else { !holds }
@@ -247,7 +253,7 @@ fn name_place(alloc: Global, view: &View, name: Name) -> Result<Vec<u8>, AllocEr
 }
 
 /// Where a part is.
-fn part_place(alloc: Global, view: &View, part: SeenPart) -> Result<Vec<u8>, AllocError>
+pub(crate) fn part_place(alloc: Global, view: &View, part: SeenPart) -> Result<Vec<u8>, AllocError>
     ensures { IfOk result (λ place. place.items ≡ part_place view.now part) }
 {
     match part {
@@ -289,7 +295,7 @@ fn push_tail(text: &mut Vec<u8>, helpers: &[u8], before: &[u8]) -> Result<(), Al
 }
 
 /// Adds the line of a part.
-fn add_line(
+pub(crate) fn add_line(
     alloc: Global,
     text: &mut Vec<u8>,
     scene: &Scene<'_>,
@@ -305,21 +311,6 @@ fn add_line(
     push_tail(text, helpers.as_slice(), before.as_slice())
 }
 
-/// Adds the lines of these parts.
-fn add_lines(
-    alloc: Global,
-    text: &mut Vec<u8>,
-    scene: &Scene<'_>,
-    all: &[Helped],
-) -> Result<(), AllocError>
-    ensures { OnOk result (text.new.items ≡ text.old.items ++ could_lines scene.now.view.now scene.now.names.now (map seat_task scene.now.seats.now) scene.now.tasks.now scene.now.who.now all.now) }
-{
-    for helped in all {
-        add_line(alloc, text, scene, helped)?;
-    }
-    Ok(())
-}
-
 /// One part, or several.
 fn parts_word(count: usize) -> &'static [u8]
     ensures { result.now ≡ parts_word count }
@@ -328,7 +319,7 @@ fn parts_word(count: usize) -> &'static [u8]
 }
 
 /// Adds how many parts there are.
-fn add_count(text: &mut Vec<u8>, who: &[u8], count: usize) -> Result<(), AllocError>
+pub(crate) fn add_count(text: &mut Vec<u8>, who: &[u8], count: usize) -> Result<(), AllocError>
     ensures { OnOk result (text.new.items ≡ text.old.items ++ count_text who.now count) }
 {
     text.extend_from_slice(who)?;
@@ -339,22 +330,11 @@ fn add_count(text: &mut Vec<u8>, who: &[u8], count: usize) -> Result<(), AllocEr
 }
 
 /// Adds what help is.
-fn add_help(text: &mut Vec<u8>, sees: &[u8]) -> Result<(), AllocError>
+pub(crate) fn add_help(text: &mut Vec<u8>, sees: &[u8]) -> Result<(), AllocError>
     ensures { OnOk result (text.new.items ≡ text.old.items ++ help_text sees.now) }
 {
     text.extend_from_slice(b"; help is any act that touches what ")?;
     text.extend_from_slice(sees)?;
     text.extend_from_slice(b", meant or not\n")?;
     Ok(())
-}
-
-/// What is printed of these parts: a line for each, and how many there are. Fails only if memory runs out.
-pub fn lines(alloc: Global, scene: &Scene<'_>, all: &[Helped]) -> Result<Bytes, AllocError>
-    ensures { IfOk result (λ text. text ≡ could_text scene.now.view.now scene.now.names.now (map seat_task scene.now.seats.now) scene.now.tasks.now scene.now.who.now scene.now.sees.now all.now) }
-{
-    let mut text = Vec::new(alloc);
-    add_lines(alloc, &mut text, scene, all)?;
-    add_count(&mut text, scene.who, all.len())?;
-    add_help(&mut text, scene.sees)?;
-    Ok(Bytes::new(text))
 }

@@ -16,12 +16,12 @@ limited_of : (sort : TextSort) (verb : Verb) → HasLimit (asked_of (sort_of sor
 limited_of Script Run = scripts_limited
 limited_of Script (Learn who most) = scripts_limited
 limited_of Script (See who most) = scripts_limited
-limited_of Script (Can who every) = scripts_limited
+limited_of Script (Can who every how) = scripts_limited
 limited_of Script (Draw who) = scripts_limited
 limited_of Calls Run = lists_limited
 limited_of Calls (Learn who most) = lists_limited
 limited_of Calls (See who most) = lists_limited
-limited_of Calls (Can who every) = lists_limited
+limited_of Calls (Can who every how) = lists_limited
 limited_of Calls (Draw who) = lists_limited
 
 pub limited : (request : Request) → HasLimit (asked request).bad (asked request).complaint
@@ -32,5 +32,5 @@ pub complains : (sort : Sort) (verb : Verb) → sort.complaint ≡ (asked_of sor
 complains sort Run = refl
 complains sort (Learn who most) = refl
 complains sort (See who most) = refl
-complains sort (Can who every) = refl
+complains sort (Can who every how) = refl
 complains sort (Draw who) = refl

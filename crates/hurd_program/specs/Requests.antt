@@ -30,7 +30,7 @@ abbrev pub asked_of : Sort → Verb → Program
 asked_of sort Run = running sort
 asked_of sort (Learn who most) = learning sort most (string_bytes who)
 asked_of sort (See who most) = seeing sort most (string_bytes who)
-asked_of sort (Can who every) = could sort every (string_bytes who)
+asked_of sort (Can who every how) = could sort every how (string_bytes who)
 asked_of sort (Draw who) = drawing sort (option_map string_bytes who)
 
 abbrev pub asked : Request → Program

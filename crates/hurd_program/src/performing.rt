@@ -32,7 +32,9 @@ fn done_of<T: Telling, W: Write>(
         Verb::Run => transcribe::<T, W>(alloc, text, output),
         Verb::Learn { who, most } => learn_text::<T, W>(alloc, who.as_str(), *most, text, output),
         Verb::See { who, most } => see_text::<T, W>(alloc, who.as_str(), *most, text, output),
-        Verb::Can { who, every } => could_text::<T, W>(alloc, who.as_str(), *every, text, output),
+        Verb::Can { who, every, how } => {
+            could_text::<T, W>(alloc, who.as_str(), *every, *how, text, output)
+        }
         Verb::Draw { who } => draw_text::<T, W>(alloc, who, text, output),
     }
 }

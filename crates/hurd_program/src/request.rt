@@ -19,8 +19,8 @@ pub enum Verb {
     Learn { who: String, most: Option<usize> },
     /// All that some see at the end, of which at most `most` bytes are printed.
     See { who: String, most: Option<usize> },
-    /// What could be shown some at the end, and with whose help: bytes, entries and nodes, or every part.
-    Can { who: String, every: bool },
+    /// What could be shown some at the end, and with whose help: bytes, entries and nodes, or every part; and how, if that is wanted.
+    Can { who: String, every: bool, how: bool },
     /// A picture of the world at the end; it is marked what some see, if any are named.
     Draw { who: Option<String> },
 }

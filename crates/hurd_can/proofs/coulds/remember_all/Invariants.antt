@@ -1,7 +1,4 @@
-use Rattle.std.proofs.Common.{List, length}
-use Rattle.hurd_can.specs.Help.{Help}
-use Rattle.hurd_can.specs.Programs.{worlds_from}
-use Rattle.hurd_can.specs.Remembered.{Each, Remembers}
+use Rattle.std.proofs.Common.{length}
 use Rattle.hurd_can.proofs.EndLaws.{Left}
 use Rattle.hurd_can.proofs.coulds.remember_all.Given as goal
 

@@ -1,4 +1,4 @@
-use Rattle.std.proofs.Common.{◌∙◌, ap, arith}
+use Rattle.std.proofs.Common.{arith}
 use Rattle.hurd_can.proofs.ListLaws.{parts_more}
 use Rattle.hurd_can.proofs.listing.add_group.Goals as goal
 

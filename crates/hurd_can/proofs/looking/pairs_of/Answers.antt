@@ -1,4 +1,4 @@
-use Rattle.std.proofs.Common.{◌≡◌, ◌∙◌, ap, sym, arith, drop, [], drop_of_length-le}
+use Rattle.std.proofs.Common.{◌≡◌, ◌∙◌, arith, drop, [], drop_of_length-le}
 use Rattle.hurd_can.specs.Help.{pairs_of}
 use Rattle.hurd_can.proofs.HelpLaws.{append_none, pairs_more}
 use Rattle.hurd_can.proofs.looking.pairs_of.Goals as goal

@@ -1,5 +1,5 @@
 use Rattle.std.proofs.Common.{arith}
-use Rattle.hurd_machine.specs.World.{World, world_from}
+use Rattle.hurd_machine.specs.World.{world_from}
 use Rattle.hurd_nodes.specs.Shown.{shown}
 use Rattle.hurd_can.proofs.HelpLaws.{adds_nobody, one_more}
 use Rattle.hurd_can.proofs.looking.try_ones.Goals as goal
