@@ -151,38 +151,60 @@ fn compare<'a>(alloc: Global) -> Result<Command<'a>, AllocError> {
         .arg(word(alloc, "TWO", SCRIPT))
 }
 
-/// The whole command line. Fails only if memory runs out.
-pub fn hurd<'a>(alloc: Global) -> Result<Command<'a>, AllocError> {
-    let see = verb(alloc, "see", "Print everything that WHO can see at the end")?
+/// The verb for what is seen. Fails only if memory runs out.
+fn see<'a>(alloc: Global) -> Result<Command<'a>, AllocError> {
+    verb(alloc, "see", "Print everything that WHO can see at the end")?
         .arg(most_look(alloc))?
         .arg(most_output(alloc))?
         .arg(word(alloc, "WHO", WHO))?
-        .arg(word(alloc, "FILE", FILE))?;
+        .arg(word(alloc, "FILE", FILE))
+}
+
+/// The verb for a picture. Fails only if memory runs out.
+fn draw<'a>(alloc: Global) -> Result<Command<'a>, AllocError> {
     let marked = Arg::new(alloc, "as")
         .long("as")
         .value_name("WHO")
         .action(ArgAction::Set)
         .help("Mark what WHO can see");
-    let draw = verb(
+    verb(
         alloc,
         "draw",
         "Print the tree at the end as a Graphviz graph",
     )?
     .arg(marked)?
     .arg(most_output(alloc))?
-    .arg(word(alloc, "FILE", FILE))?;
-    Command::new(alloc, "hurd")
-        .bin_name("hurd")?
-        .version(VERSION)
-        .about(ABOUT)
-        .after_help(AFTER)
-        .subcommand_required(true)
-        .arg_required_else_help(true)
-        .subcommand(run(alloc)?)?
-        .subcommand(learn(alloc)?)?
-        .subcommand(see)?
-        .subcommand(can(alloc)?)?
-        .subcommand(draw)?
-        .subcommand(compare(alloc)?)?
-        .subcommand(sample(alloc)?)
+    .arg(word(alloc, "FILE", FILE))
+}
+
+/// The command line without its verbs. Fails only if memory runs out.
+fn bare<'a>(alloc: Global) -> Result<Command<'a>, AllocError> {
+    let command = Command::new(alloc, "hurd").bin_name("hurd")?;
+    Ok(
+        command
+            .version(VERSION)
+            .about(ABOUT)
+            .after_help(AFTER)
+            .subcommand_required(true)
+            .arg_required_else_help(true),
+    )
+}
+
+/// A command line with one verb more. Fails only if memory runs out.
+fn with<'a>(
+    command: Command<'a>,
+    verb: Result<Command<'a>, AllocError>,
+) -> Result<Command<'a>, AllocError> {
+    command.subcommand(verb?)
+}
+
+/// The whole command line. Fails only if memory runs out.
+pub fn hurd<'a>(alloc: Global) -> Result<Command<'a>, AllocError> {
+    let command = with(bare(alloc)?, run(alloc))?;
+    let command = with(command, learn(alloc))?;
+    let command = with(command, see(alloc))?;
+    let command = with(command, can(alloc))?;
+    let command = with(command, draw(alloc))?;
+    let command = with(command, compare(alloc))?;
+    with(command, sample(alloc))
 }
