@@ -20,20 +20,20 @@ pub record Made (who : Option Learners) (calls : List Listed) (w : World) (befor
   pub leaves : x ≡ behind first w
   pub seen : SeenBy who x kept
 
--- at the beginning nothing was seen
-
-not_seen : (who : Option Learners) (w : World) → SeenBy who w None
+-- nothing was seen
+pub not_seen : (who : Option Learners) (w : World) → SeenBy who w None
 not_seen None w = tt
 not_seen (Some l) w = tt
 
-pub none_made : (who : Option Learners) (calls left : List (ListedCall ServerBox)) (w : World) (before : List ℕ) (kept : Option View) → left ≡ calls → kept ≡ None
+-- at the beginning no call was made
+pub none_made : (who : Option Learners) (calls left : List (ListedCall ServerBox)) (w : World) (before : List ℕ) (kept : Option View) → left ≡ calls → SeenBy who w kept
     → Made who (listed calls) w before before (listed left) w kept
-none_made who calls left w before kept same none = rw (same, none) (record {
+none_made who calls left w before kept same seen = rw same (record {
   first = [];
   split = refl;
   tells = ([], none_tells who w, sym (append-nil before));
   leaves = sym (none_behind w);
-  seen = not_seen who w;
+  seen = seen;
 })
 
 module _ (who : Option Learners) (calls : List Listed) (w : World) (before now : List ℕ) (left : List Listed) (x : World) (kept : Option View) (so : Made who calls w before now left x kept) where

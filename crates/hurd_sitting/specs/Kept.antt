@@ -1,5 +1,5 @@
 -- What a sitting keeps.
-use Rattle.std.specs.Prelude.{◌≡◌, ℕ, List, Option, option_map}
+use Rattle.std.specs.Prelude.{◌≡◌, ℕ, List, Option}
 use Rattle.hurd_kinds.specs.Boxes.{box_meaning}
 use Rattle.hurd_machine.specs.World.{World}
 use Rattle.hurd_world.specs.Held.{world_of}
@@ -12,11 +12,11 @@ told_in sitting = sitting.told.items
 
 -- its world
 abbrev pub world_in : Sitting → World
-world_in sitting = world_of box_meaning sitting.world.value
+world_in sitting = world_of box_meaning sitting.stage.world
 
 -- who is told what they learn, if anybody
 abbrev pub learners_in : Sitting → Option Learners
-learners_in sitting = option_map (λ b. b.value) sitting.learners
+learners_in sitting = sitting.stage.learners
 
 -- how many tasks its world has
 abbrev pub tasks_in : Sitting → ℕ

@@ -1,11 +1,14 @@
 //! Making calls one after another, and telling each.
-ghost use Rattle.std.specs.Prelude.{◌≡◌, ◌⊎◌, ◌∷◌, [], Some, IfErr, IfOk, OnOk};
+ghost use Rattle.std.specs.Prelude.{◌≡◌, ◌⊎◌, ◌∷◌, [], false, true, Some, IfErr, IfOk, OnOk};
 ghost use Rattle.std.specs.Option.{option_map};
 ghost use Rattle.hurd_kinds.specs.Boxes.{box_meaning};
 ghost use Rattle.hurd_lists.specs.Lists.{listed_by};
-ghost use Rattle.hurd_world.specs.Held.{world_of};
+ghost use Rattle.hurd_machine.specs.Sound.{Sound};
+ghost use Rattle.hurd_world.specs.Held.{state_of, world_of};
+ghost use Rattle.hurd_world.specs.Noting.{NotesWhatIsTouched};
 ghost use Rattle.hurd_calls.specs.Making.{after_call, answer_to};
-ghost use Rattle.hurd_teaching.specs.Watched.{SeenOf};
+ghost use Rattle.hurd_teaching.specs.Telling.{SaysOf};
+ghost use Rattle.hurd_teaching.specs.Watched.{SeenOf, Sees};
 ghost use Rattle.hurd_sitting.specs.Sittings.{Adds, SomeMade, Tells, behind, listed};
 ghost use Rattle.hurd_sitting.specs.Watching.{SeenBy};
 
@@ -28,12 +31,51 @@ fn made(
     ensures world { OnOk result (world_of box_meaning world.new ≡ after_call (listed_by box_meaning listed) (world_of box_meaning world.old)) }
     ensures err { IfErr result (λ _. (world_of box_meaning world.new ≡ world_of box_meaning world.old)
         ⊎ (world_of box_meaning world.new ≡ after_call (listed_by box_meaning listed) (world_of box_meaning world.old))) }
+    ensures noted { OnOk result (NotesWhatIsTouched (state_of box_meaning world.old) (state_of box_meaning world.new)) }
+    ensures sound { Sound (world_of box_meaning world.old) → Sound (world_of box_meaning world.new) }
 {
     let server = brought(alloc, &listed.server)?;
     answer(world, alloc, listed, server)
 }
 
-/// Makes a call, and gives its paragraph: what is printed of it, and what these learn by it where it is another's. Fails only if memory runs out: then the call
+/// What these learn by a call; nothing if it is known that what they see is as it was. Fails only if memory runs out.
+fn learned(
+    alloc: Global,
+    world: &World<ServerBox>,
+    learners: &Learners,
+    watch: &mut Watch,
+    quiet: bool,
+    unmoved: bool,
+) -> Result<Bytes, AllocError>
+    requires { unmoved ≡ true → (quiet ≡ false) × Sees learners.now.tasks.items (world_of box_meaning world.now) watch.old.seen }
+    ensures { IfOk result (λ text. SaysOf learners.now.tasks.items learners.now.who.items quiet (world_of box_meaning world.now) watch.old.seen watch.new.seen text) }
+{
+    if unmoved {
+        return Ok(Bytes::new(Vec::new(alloc)));
+    }
+    said(alloc, world, learners, watch, quiet)
+}
+
+/// Looks at what these see before a call by another, unless that was done, and notes from then on what is touched. Fails only if memory runs out.
+fn looked(
+    world: &mut World<ServerBox>,
+    alloc: Global,
+    learners: &Learners,
+    watch: &mut Watch,
+    quiet: bool,
+) -> Result<(), AllocError>
+    requires { SeenOf learners.now.tasks.items (world_of box_meaning world.old) watch.old.seen }
+    ensures sees { OnOk result (quiet ≡ false → Sees learners.now.tasks.items (world_of box_meaning world.old) watch.new.seen) }
+    ensures world { world_of box_meaning world.new ≡ world_of box_meaning world.old }
+{
+    look_before(alloc, world, learners, watch, quiet)?;
+    if !quiet {
+        world.note();
+    }
+    Ok(())
+}
+
+/// Makes a call, and gives its paragraph: what is printed of it, and what these learn by it if it is another's. Fails only if memory runs out: then the call
 /// was made, or nothing changed.
 fn paragraph_of(
     world: &mut World<ServerBox>,
@@ -42,17 +84,20 @@ fn paragraph_of(
     learners: &Learners,
     watch: &mut Watch,
 ) -> Result<Vec<u8>, AllocError>
-    requires { SeenOf learners.now.tasks.items (world_of box_meaning world.old) watch.old.seen }
+    requires sound { Sound (world_of box_meaning world.old) }
+    requires seen { SeenOf learners.now.tasks.items (world_of box_meaning world.old) watch.old.seen }
     ensures tells { IfOk result (λ text. Tells (Some learners.now) (listed_by box_meaning listed ∷ []) (world_of box_meaning world.old) text.items) }
     ensures seen { OnOk result (SeenOf learners.now.tasks.items (world_of box_meaning world.new) watch.new.seen) }
     ensures world { OnOk result (world_of box_meaning world.new ≡ after_call (listed_by box_meaning listed) (world_of box_meaning world.old)) }
+    ensures sound { Sound (world_of box_meaning world.new) }
     ensures err { IfErr result (λ _. (world_of box_meaning world.new ≡ world_of box_meaning world.old)
         ⊎ (world_of box_meaning world.new ≡ after_call (listed_by box_meaning listed) (world_of box_meaning world.old))) }
 {
     let quiet = learners.have(listed.task);
-    look_before(alloc, world, learners, watch, quiet)?;
+    looked(world, alloc, learners, watch, quiet)?;
     let answer = made(world, alloc, listed)?;
-    let said = said(alloc, world, learners, watch, quiet)?;
+    let unmoved = !quiet && watch.misses(world.noted());
+    let said = learned(alloc, world, learners, watch, quiet, unmoved)?;
     let shown = Bytes::new(Vec::new(alloc));
     paragraph(alloc, &answer, &said, &shown)
 }
@@ -66,7 +111,9 @@ fn text_of(
     learners: &Option<Box<Learners>>,
     watch: &mut Watch,
 ) -> Result<Vec<u8>, AllocError>
-    requires { SeenBy (option_map (λ v. v.value) learners.now) (world_of box_meaning world.old) watch.old.seen }
+    requires sound { Sound (world_of box_meaning world.old) }
+    requires seen { SeenBy (option_map (λ v. v.value) learners.now) (world_of box_meaning world.old) watch.old.seen }
+    ensures sound { Sound (world_of box_meaning world.new) }
     ensures tells { IfOk result (λ text. Tells (option_map (λ v. v.value) learners.now) (listed_by box_meaning listed ∷ []) (world_of box_meaning world.old) text.items) }
     ensures seen { OnOk result (SeenBy (option_map (λ v. v.value) learners.now) (world_of box_meaning world.new) watch.new.seen) }
     ensures world { OnOk result (world_of box_meaning world.new ≡ after_call (listed_by box_meaning listed) (world_of box_meaning world.old)) }
@@ -86,16 +133,20 @@ pub(crate) fn make_all(
     alloc: Global,
     calls: Vec<ListedCall<ServerBox>>,
     learners: &Option<Box<Learners>>,
+    watch: &mut Watch,
     told: &mut Vec<u8>,
 ) -> Result<(), AllocError>
+    requires sound { Sound (world_of box_meaning world.old) }
+    requires seen { SeenBy (option_map (λ v. v.value) learners.now) (world_of box_meaning world.old) watch.old.seen }
+    ensures sound { Sound (world_of box_meaning world.new) }
+    ensures seen { OnOk result (SeenBy (option_map (λ v. v.value) learners.now) (world_of box_meaning world.new) watch.new.seen) }
     ensures told { OnOk result (Adds (option_map (λ v. v.value) learners.now) (listed calls.items) (world_of box_meaning world.old) told.old.items told.new.items) }
     ensures world { OnOk result (world_of box_meaning world.new ≡ behind (listed calls.items) (world_of box_meaning world.old)) }
     ensures err { IfErr result (λ _. SomeMade (option_map (λ v. v.value) learners.now) (listed calls.items) (world_of box_meaning world.old)
         told.old.items told.new.items (world_of box_meaning world.new)) }
 {
-    let mut watch = Watch::new();
     for listed in calls {
-        let text = text_of(world, alloc, listed, learners, &mut watch)?;
+        let text = text_of(world, alloc, listed, learners, watch)?;
         told.extend_from_slice(text.as_slice())?;
     }
     Ok(())

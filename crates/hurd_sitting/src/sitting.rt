@@ -10,23 +10,20 @@ ghost use Rattle.hurd_sitting.specs.Sittings.{Begins, Makes, NotMade};
 ghost use Rattle.hurd_sitting.specs.Kept.{SameStand, SameWatch, learners_in, tasks_in, told_in, world_in};
 ghost use Rattle.hurd_sitting.specs.Watching.{NotWatched, Watches};
 
-use crate::making::make_all;
-use crate::naming::watched;
+use crate::stage::Stage;
 use hurd_calls::{begun, parsed};
 use hurd_dialogue::boxed;
 use hurd_kinds::{ServerBox, empty_tree};
 use hurd_lists::CallList;
-use hurd_teaching::Learners;
 use hurd_terminal::Fault;
 use hurd_world::World;
 use std::alloc::Global;
 
-/// A world that is kept, what the last text told, who is told what they learn, and how many tasks there are.
+/// A world that is kept with who is told what they learn, what the last text told, and how many tasks there are.
 #[derive(Drop)]
 pub struct Sitting {
-    world: Box<World<ServerBox>>,
+    stage: Stage,
     told: Vec<u8>,
-    learners: Option<Box<Learners>>,
     tasks: usize,
 }
 
@@ -44,13 +41,12 @@ impl Sitting {
         let CallList { tasks, calls } = parsed(alloc, list)?;
         let count = tasks.len();
         let root = ServerBox::Tmpfs(empty_tree(alloc)?);
-        let mut world = begun(alloc, root, tasks)?;
+        let mut stage = Stage::of(begun(alloc, root, tasks)?);
         let mut told = Vec::new(alloc);
-        make_all(&mut world, alloc, calls, &None, &mut told)?;
+        stage.make(alloc, calls, &mut told)?;
         let sitting = Sitting {
-            world,
+            stage,
             told,
-            learners: None,
             tasks: count,
         };
         Ok(boxed(alloc, sitting)?)
@@ -70,13 +66,7 @@ impl Sitting {
         if !tasks.is_empty() {
             return Err(Fault::Bad { line: 0 });
         }
-        Ok(make_all(
-            &mut self.world,
-            alloc,
-            calls,
-            &self.learners,
-            &mut self.told,
-        )?)
+        Ok(self.stage.make(alloc, calls, &mut self.told)?)
     }
 
     /// From now on `make` tells what the tasks learn whose numbers stand in `who` between commas; nothing of that where it has no bytes.
@@ -87,8 +77,7 @@ impl Sitting {
         ensures err { IfErr result (λ fault. NotWatched (tasks_in self.old) who.now fault × (self.new ≡ self.old)) }
         ensures stand { SameStand self.old self.new }
     {
-        self.learners = watched(alloc, self.tasks, who)?;
-        Ok(())
+        self.stage.watch(alloc, self.tasks, who)
     }
 
     /// What the last text told: each call's line and reply, as `hurd run --calls` prints it. Where tasks were watched, a paragraph for each, as
@@ -103,6 +92,6 @@ impl Sitting {
     pub fn world(&self) -> &World<ServerBox>
         ensures { world_of box_meaning result.now ≡ world_in self.now }
     {
-        &self.world
+        self.stage.world()
     }
 }

@@ -11,11 +11,12 @@ pub loop-listed-init : goal.loop-listed-init
 loop-listed-init c = record {
   can = tt;
   ends = tt;
-  made = none_made _ c.args.calls.items _ _ _ _ c.into_iter-listed-iterator.ensures.into_iter_gives.0 (ap (λ (w : Watched). w.seen) c.new-watch.ensures);
+  made = none_made _ c.args.calls.items _ _ _ _ c.into_iter-listed-iterator.ensures.into_iter_gives.0 c.requires.seen;
+  sound = c.requires.sound;
 }
 
 pub text_of-requires : goal.text_of-requires
-text_of-requires c = c.loop-listed.invariant.made.seen
+text_of-requires c = record { sound = c.loop-listed.invariant.sound; seen = c.loop-listed.invariant.made.seen }
 
 pub loop-listed-preserved : goal.loop-listed-preserved
 loop-listed-preserved c = record {
@@ -23,6 +24,7 @@ loop-listed-preserved c = record {
   ends = tt;
   made = next_made _ _ _ _ _ _ _ _ c.loop-listed.invariant.made _ _ _ _ _ _ (ap listed c.in-Some.ensures.steps.0) c.in_ok-text.ensures.tells c.in_ok-text.ensures.world c.in_ok-text.ensures.seen
       (rw c.as_slice.ensures.value at c.in_ok-extend_from_slice.ensures.items);
+  sound = c.in_ok-text.ensures.sound;
 }
 
 pub returns-clause-told : goal.returns-clause-told

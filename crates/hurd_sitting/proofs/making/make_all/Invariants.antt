@@ -1,6 +1,7 @@
 use Rattle.std.specs.Option.{option_map}
 use Rattle.std.specs.Vec.Iter.{into_iter_items}
 use Rattle.hurd_kinds.specs.Boxes.{box_meaning}
+use Rattle.hurd_machine.specs.Sound.{Sound}
 use Rattle.hurd_world.specs.Held.{world_of}
 use Rattle.hurd_sitting.specs.Sittings.{listed}
 use Rattle.hurd_sitting.proofs.MadeLaws.{Made}
@@ -13,4 +14,5 @@ invariant-loop-listed l = record {
   ends : goal.iterator-loop-listed.is_finite l.listed-iterator;
   made : Made (option_map (λ v. v.value) l.fn.learners) (listed l.fn.calls.items) (world_of box_meaning l.fn.world) l.fn.told.items l.told.items (listed (into_iter_items l.listed-iterator))
       (world_of box_meaning l.world) l.watch.seen;
+  sound : Sound (world_of box_meaning l.world);
 }

@@ -1,0 +1,106 @@
+//! A world, and what those who are told what they learn saw of it.
+ghost use Rattle.std.specs.Prelude.{◌≡◌, None, IfErr, IfOk, OnOk};
+ghost use Rattle.std.specs.Option.{option_map};
+ghost use Rattle.hurd_kinds.specs.Boxes.{box_meaning};
+ghost use Rattle.hurd_machine.specs.Sound.{Sound};
+ghost use Rattle.hurd_world.specs.Held.{world_of};
+ghost use Rattle.hurd_sitting.specs.Sittings.{Adds, SomeMade, behind, listed};
+ghost use Rattle.hurd_sitting.specs.Watching.{NotWatched, Watches};
+
+use crate::making::make_all;
+use crate::naming::watched;
+use hurd_kinds::ServerBox;
+use hurd_lists::ListedCall;
+use hurd_teaching::{Learners, Watch};
+use hurd_terminal::Fault;
+use hurd_world::World;
+use std::alloc::{AllocError, Global};
+use std::marker::Model;
+use std::mem;
+
+/// A world, who is told what they learn, and what these saw when they were last looked at.
+#[derive(Drop)]
+pub struct Stage {
+    world: Box<World<ServerBox>>,
+    learners: Option<Box<Learners>>,
+    watch: Watch,
+}
+
+impl Model for Stage {
+    ghost use Rattle.std.specs.Option.{option_map};
+    ghost use Rattle.hurd_kinds.specs.Boxes.{box_meaning};
+    ghost use Rattle.hurd_machine.specs.Sound.{Sound};
+    ghost use Rattle.hurd_world.specs.Held.{world_of};
+    ghost use Rattle.hurd_sitting.specs.Staged.{Staged, coded_staged};
+    ghost use Rattle.hurd_sitting.specs.Watching.{SeenBy};
+
+    ghost Value = { Staged };
+
+    ghost coded = { coded_staged };
+
+    ghost view = { λ s. record { world = s.world.value; learners = option_map (λ v. v.value) s.learners } };
+
+    ghost invariant = { λ s. Sound (world_of box_meaning s.world.value) × SeenBy (option_map (λ v. v.value) s.learners) (world_of box_meaning s.world.value) s.watch.seen };
+}
+
+impl Stage {
+    /// A world in which nobody is told what they learn.
+    pub(crate) fn of(world: Box<World<ServerBox>>) -> Stage
+        requires { Sound (world_of box_meaning world.value) }
+        ensures { result ≡ record { world = world.value; learners = None } }
+    {
+        Stage {
+            world,
+            learners: None,
+            watch: Watch::new(),
+        }
+    }
+
+    /// Makes calls one after another, and adds what each tells. Fails only if memory runs out: then some first calls were made and told, and perhaps the next
+    /// was made.
+    pub(crate) fn make(
+        &mut self,
+        alloc: Global,
+        calls: Vec<ListedCall<ServerBox>>,
+        told: &mut Vec<u8>,
+    ) -> Result<(), AllocError>
+        ensures told { OnOk result (Adds self.old.learners (listed calls.items) (world_of box_meaning self.old.world) told.old.items told.new.items) }
+        ensures world { OnOk result (world_of box_meaning self.new.world ≡ behind (listed calls.items) (world_of box_meaning self.old.world)) }
+        ensures err { IfErr result (λ _. SomeMade self.old.learners (listed calls.items) (world_of box_meaning self.old.world)
+            told.old.items told.new.items (world_of box_meaning self.new.world)) }
+        ensures learners { self.new.learners ≡ self.old.learners }
+    {
+        let mut watch = mem::replace(&mut self.watch, Watch::new());
+        make_all(
+            &mut self.world,
+            alloc,
+            calls,
+            &self.learners,
+            &mut watch,
+            told,
+        )?;
+        self.watch = watch;
+        Ok(())
+    }
+
+    /// From now on those of so many tasks are told what they learn whose numbers stand in `who` between commas; nobody if it has no bytes.
+    ///
+    /// Errors, in order: `Unknown` if one of them isn't there; `Memory` at any point. Then nothing changes.
+    pub(crate) fn watch(&mut self, alloc: Global, count: usize, who: &[u8]) -> Result<(), Fault>
+        ensures ok { OnOk result (Watches count who.now self.new.learners) }
+        ensures err { IfErr result (λ fault. NotWatched count who.now fault × (self.new ≡ self.old)) }
+        ensures world { self.new.world ≡ self.old.world }
+    {
+        let learners = watched(alloc, count, who)?;
+        self.watch = Watch::new();
+        self.learners = learners;
+        Ok(())
+    }
+
+    /// The world.
+    pub(crate) fn world(&self) -> &World<ServerBox>
+        ensures { result.now ≡ self.now.world }
+    {
+        &self.world
+    }
+}
