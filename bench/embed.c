@@ -1,4 +1,4 @@
-/* Does through the library what `hurd_trials bench` does in its own process for the rows create and stat: of each file three calls, in a world that is kept. Prints rows of the same form.
+/* Does through the library what `hurd_trials bench` does in its own process for the rows create and stat: of each file three calls, in a world that is kept; and the row stat once more, while another task is watched who sees all files. Prints rows of the same form.
 
    embed FILES LINES WAY: LINES calls are in a text, 1 or more; WAY is what the rows are called. To write the lines is part of the work. Status 1 with one line where something
    goes wrong. */
@@ -79,7 +79,7 @@ int main(int count, char **words) {
     long files = atol(words[1]);
     most_lines = atol(words[2]);
     must(files > 0 && most_lines > 0, "FILES and LINES are numbers from 1 on");
-    const char *tasks = "task 0 0\ntask 1000 1000\n";
+    const char *tasks = "task 0 0\ntask 1000 1000\ntask 1001 1001\n";
     hurd_said said = hurd_begin(&world, (const uint8_t *)tasks, strlen(tasks), out, room);
     must(said.status == HURD_DONE, "no world was begun");
     for (long i = 0; i * directory_size < files; i++)
@@ -87,6 +87,9 @@ int main(int count, char **words) {
     make();
     measure(words[3], "create", create, files);
     measure(words[3], "stat", stat_one, files);
+    /* another task sees all files, and what it learns is told */
+    must(hurd_watch(&world, (const uint8_t *)"2", 1).status == HURD_DONE, "a watch is refused");
+    measure(words[3], "stat, watched", stat_one, files);
     hurd_end(&world);
     return 0;
 }

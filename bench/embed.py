@@ -44,10 +44,12 @@ def measure(world: hurd.World, name: str, calls: Callable[[int], Iterator[str]],
 
 
 def main(files: int, most: int, way: str) -> None:
-    with hurd.World("task 0 0\ntask 1000 1000\n") as world:
+    with hurd.World("task 0 0\ntask 1000 1000\ntask 1001 1001\n") as world:
         make(world, (f"0 dir_mkdir 1 =d{i} 777\n" for i in range((files + DIRECTORY_SIZE - 1) // DIRECTORY_SIZE)), most)
         measure(world, f"{way}, create", create, files, most)
         measure(world, f"{way}, stat", stat, files, most)
+        world.learn("2")
+        measure(world, f"{way}, stat, watched", stat, files, most)
 
 
 if __name__ == "__main__":
