@@ -1,4 +1,5 @@
-/* Does through the library what `hurd_trials bench` does in its own process for the rows create and stat: of each file three calls, in a world that is kept; and the row stat once more, while another task is watched who sees all files. Prints rows of the same form.
+/* Does through the library what `hurd_trials bench` does in its own process for the rows create and stat: three calls for each file, in a world that is kept. Then it does stat
+   again, while another task that sees all files is watched. Prints rows of the same form.
 
    embed FILES LINES WAY: LINES calls are in a text, 1 or more; WAY is what the rows are called. To write the lines is part of the work. Status 1 with one line where something
    goes wrong. */

@@ -1,4 +1,4 @@
--- A world, and who is told what they learn in it.
+-- A world, and the tasks that are watched in it.
 use Rattle.std.specs.Prelude.{Option, refl}
 use Rattle.std.specs.Coded.{Coded, code_by, coded×, coded_option}
 use Rattle.hurd_kinds.specs.declared.server_box.ServerBox.{ServerBox}

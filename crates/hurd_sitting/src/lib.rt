@@ -5,7 +5,8 @@
 //! A call of a task that isn't there is no fault: its reply is ESRCH.
 //!
 //! `Sitting::watch` names tasks. From then on `make` adds, after each call by others, what these learn from it, as `hurd learn --calls` prints it, without its last line.
-//! What they see is looked at when a call touches something of it, and not before: so a call that touches nothing that they see costs no look, also in another text.
+//! After a call by another task, what they see is looked at again only if the call touched something of it. So a call that touches nothing that they see costs no look,
+//! in the same text or in a later one.
 //!
 //! Texts that are made one after another tell what one list of their calls tells, and leave the same world: `calls_are_one` says it of calls, `texts_are_one`
 //! of the bytes of a list and of a text after it.
@@ -19,4 +20,3 @@ mod stage;
 
 pub use laws::{calls_are_one, texts_are_one};
 pub use sitting::Sitting;
-pub use stage::Stage;

@@ -19,7 +19,7 @@ use hurd_terminal::Fault;
 use hurd_world::World;
 use std::alloc::Global;
 
-/// A world that is kept with who is told what they learn, what the last text told, and how many tasks there are.
+/// A world that is kept, with the tasks that are watched in it; what the last text told; and how many tasks there are.
 #[derive(Drop)]
 pub struct Sitting {
     stage: Stage,
@@ -69,7 +69,7 @@ impl Sitting {
         Ok(self.stage.make(alloc, calls, &mut self.told)?)
     }
 
-    /// From now on `make` tells what the tasks learn whose numbers stand in `who` between commas; nothing of that where it has no bytes.
+    /// From now on `make` tells what the tasks learn whose numbers `who` lists, separated by commas; nothing of that if it has no bytes.
     ///
     /// Errors, in order: `Unknown` where one of them isn't there; `Memory` at any point. Then nothing changes.
     pub fn watch(&mut self, alloc: Global, who: &[u8]) -> Result<(), Fault>

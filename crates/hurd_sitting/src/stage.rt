@@ -1,4 +1,4 @@
-//! A world, and what those who are told what they learn saw of it.
+//! A world, with the tasks that are watched in it and what they saw of it.
 ghost use Rattle.std.specs.Prelude.{◌≡◌, None, IfErr, IfOk, OnOk};
 ghost use Rattle.std.specs.Option.{option_map};
 ghost use Rattle.hurd_kinds.specs.Boxes.{box_meaning};
@@ -18,7 +18,7 @@ use std::alloc::{AllocError, Global};
 use std::marker::Model;
 use std::mem;
 
-/// A world, who is told what they learn, and what these saw when they were last looked at.
+/// A world, the tasks that are watched in it, and what these saw when they were last looked at.
 #[derive(Drop)]
 pub struct Stage {
     world: Box<World<ServerBox>>,
@@ -44,7 +44,7 @@ impl Model for Stage {
 }
 
 impl Stage {
-    /// A world in which nobody is told what they learn.
+    /// A world in which no task is watched.
     pub(crate) fn of(world: Box<World<ServerBox>>) -> Stage
         requires { Sound (world_of box_meaning world.value) }
         ensures { result ≡ record { world = world.value; learners = None } }
@@ -83,9 +83,9 @@ impl Stage {
         Ok(())
     }
 
-    /// From now on those of so many tasks are told what they learn whose numbers stand in `who` between commas; nobody if it has no bytes.
+    /// Watches the tasks whose numbers `who` lists, separated by commas; no task if it has no bytes. There are `count` tasks.
     ///
-    /// Errors, in order: `Unknown` if one of them isn't there; `Memory` at any point. Then nothing changes.
+    /// Errors, in order: `Unknown` if one of them doesn't exist; `Memory` at any point. Then nothing changes.
     pub(crate) fn watch(&mut self, alloc: Global, count: usize, who: &[u8]) -> Result<(), Fault>
         ensures ok { OnOk result (Watches count who.now self.new.learners) }
         ensures err { IfErr result (λ fault. NotWatched count who.now fault × (self.new ≡ self.old)) }

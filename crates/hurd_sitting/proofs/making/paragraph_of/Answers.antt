@@ -13,7 +13,7 @@ use Rattle.hurd_sitting.proofs.TellLaws.{paragraph_tells}
 use Rattle.hurd_sitting.proofs.making.paragraph_of.Goals.{then-not-quiet, else-not-quiet}
 use Rattle.hurd_sitting.proofs.making.paragraph_of.Goals as goal
 
--- where none of what was touched was seen, what was seen is what these see now
+-- if nothing that was touched was seen, what was seen is what these see now
 pub learned-requires : goal.learned-requires
 learned-requires c =
     elim c.if-not-quiet.branch [
