@@ -4,10 +4,15 @@ Each command has a paragraph, and an empty line ends it. Its first line is the c
 Of `ls`, each name is one such line, and `: ` marks the next line of a name that has a newline. `\\ no newline` says that the last byte is no newline.
 `! EACCES` names the error that refused a call, and `! usage` says that the command doesn't have these words.
 """
+import itertools
 import re
 from typing import NamedTuple, Optional
 
 UNENDED = b"\\ no newline"
+# how many bytes of a reply are shown on one line
+SHOWN = 200
+# a newline within a name
+WITHIN = -1
 
 
 class Reply(NamedTuple):
@@ -74,3 +79,31 @@ def plain(reply):
     """A reply as `hurd run` prints it: a text gets the newline that it lacks, and what ended the command is a line of its own."""
     ended = reply.text if reply.text.endswith(b"\n") or not reply.text else reply.text + b"\n"
     return reply.line + b"\n" + ended + (b"" if reply.ending is None else reply.ending + b"\n")
+
+
+def put_out(reply):
+    """What a command put out, byte by byte, with another sign for a newline within a name."""
+    if reply.names is None:
+        return list(reply.text)
+    return [WITHIN if byte == 10 and at < len(name) else byte for name in reply.names for at, byte in enumerate(name + b"\n")]
+
+
+def shown_byte(byte):
+    """A byte on the line; no byte is shown as `!` or `(`."""
+    odd = {WITHIN: rb"\x0a", 10: rb"\n", 92: rb"\\", 40: rb"\x28", 33: rb"\x21"}
+    return odd.get(byte) or (bytes([byte]) if 32 <= byte <= 126 else b"\\x%02x" % byte)
+
+
+def shown(reply):
+    """A reply on one line."""
+    put = put_out(reply)
+    parts = [b"".join(map(shown_byte, put[:SHOWN])) + (b" .." if len(put) > SHOWN else b"")] if put else []
+    return b" ".join(parts + ([b"! " + reply.ending] if reply.ending else [])) or b"(nothing)"
+
+
+def differ(first, second):
+    """The further line if both replies are shown alike: from which byte on they differ."""
+    if shown(first) != shown(second):
+        return b""
+    pairs = itertools.zip_longest(put_out(first), put_out(second))
+    return b"\n      differ: from byte %d on" % next(number for number, (one, other) in enumerate(pairs, 1) if one != other)

@@ -35,7 +35,8 @@ use Rattle.hurd_views.specs.Views.{Views}
 use Rattle.hurd_can.specs.Ending.{HelpsAtEnd}
 use Rattle.hurd_can.specs.Help.{AreHelped, Help, Picks}
 use Rattle.hurd_can.specs.Listed.{Unseen, kept_if}
-use Rattle.hurd_can.specs.Programs.{IsCould, asked, could, others_of, worlds_from}
+use Rattle.hurd_can.specs.Dated.{worlds_from}
+use Rattle.hurd_can.specs.Programs.{IsCould, asked, could, others_of}
 use Rattle.hurd_can.specs.Remembered.{Each, Remembers}
 use Rattle.hurd_can.specs.Saying.{Asked, SaysAll}
 use Rattle.hurd_can.proofs.EachLaws.{each_next}

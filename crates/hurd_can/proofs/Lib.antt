@@ -3,6 +3,7 @@ pub mod HelpLaws
 pub mod ListLaws
 pub mod EachLaws
 pub mod RecallLaws
+pub mod DatedLaws
 pub mod TriedLaws
 pub mod SaidLaws
 pub mod EndLaws

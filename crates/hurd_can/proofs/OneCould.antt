@@ -1,6 +1,6 @@
 -- Of a text one text is printed of what could be shown: views are one, and so is what is picked, and who is told to have seen a part before.
 use Rattle.std.proofs.Common.{◌≡◌, ◌∙◌, inl, inr, sym, refl, ap, ap₂, subst, suc, ℕ, Bool, true, false, List, [], ◌∷◌, map, length}
-use Rattle.std.specs.Prelude.{◌++◌, ◌&&◌, Option, Vec, if◌then◌else◌, not}
+use Rattle.std.specs.Prelude.{◌++◌, ◌&&◌, None, Option, Vec, if◌then◌else◌, not}
 use Rattle.std.specs.Global.{Global}
 use Rattle.std.specs.declared.vec.Vec.{ok-type}
 use Rattle.hurd_creds.specs.declared.name.TaskId.{TaskId}
@@ -15,18 +15,21 @@ use Rattle.hurd_teaching.specs.Owners.{all_tasks}
 use Rattle.hurd_teaching.specs.Programs.{PrintsOneText}
 use Rattle.hurd_terminal.specs.Faults.{IsFront}
 use Rattle.hurd_views.specs.Views.{IsOneView}
+use Rattle.hurd_views.specs.declared.rows.Row.{Row}
 use Rattle.hurd_views.specs.declared.view.View.{View}
 use Rattle.hurd_views.proofs.OneView.{views_are_one}
 use Rattle.hurd_can.specs.Could.{before_more, before_text, could_line, helpers_text, last_line, line_head, line_tail, part_place, part_word}
 use Rattle.hurd_can.specs.Help.{AreEnough, AreHelped, Help, IsEnough, IsHelped, Picks, pairs_of}
 use Rattle.hurd_can.specs.Listed.{Unseen, listed}
-use Rattle.hurd_can.specs.Programs.{CouldAtEnd, IsCould, asked, could, others_of, worlds_from}
-use Rattle.hurd_can.specs.Remembered.{Each, Remembers, SawBefore}
+use Rattle.hurd_can.specs.Dated.{SinceIn, made_before, worlds_from}
+use Rattle.hurd_can.specs.Programs.{CouldAtEnd, IsCould, asked, could, others_of}
+use Rattle.hurd_can.specs.Remembered.{Each, Remembers, SawBefore, row_of}
 use Rattle.hurd_can.specs.Saying.{Asked, SaysAll, SaysPart, SaysWays}
-use Rattle.hurd_can.specs.Tried.{AllSaid, SaysWay, ShowsWith, way_text}
-use Rattle.hurd_can.specs.Ways.{path_of, set_name, sets_of, way_by_all, way_by_helpers}
+use Rattle.hurd_can.specs.Tried.{AllSaid, SaysWay, ShowsWith, evidence, way_text}
+use Rattle.hurd_can.specs.Ways.{look_at, path_of, set_name, sets_of, way_by_all, way_by_helpers}
 use Rattle.hurd_can.specs.declared.helped.Pair.{Pair}
 use Rattle.hurd_can.specs.declared.ways.HelpSet.{HelpSet}
+use Rattle.hurd_can.proofs.DatedLaws.{since_once}
 use Rattle.hurd_can.proofs.PickLaws.{picks_once}
 use Rattle.hurd_can.proofs.RecallLaws.{same_rows}
 use Rattle.hurd_can.proofs.SaidLaws.{all_said_as, all_said_once}
@@ -68,14 +71,19 @@ line_by_view a b names tasks all who h are = ap (λ (v : View). could_line v nam
 path_by_view : (a b : View) (p : SeenPart) → AreOne a b → path_of (part_place a p) ≡ path_of (part_place b p)
 path_by_view a b p are = ap (λ (v : View). path_of (part_place v p)) (same_seen a b are)
 
-ways_by_view : (how : Bool) (a b : View) (asks : Asked) (tasks : List Task) (h : Help) (text : List ℕ) → AreOne a b → SaysWays how asks a tasks h text → SaysWays how asks b tasks h text
-ways_by_view false a b asks tasks h text are says = says
-ways_by_view true a b asks tasks h text are says =
-    subst (λ (path : List ℕ). AllSaid (SaysWay asks.sort asks.script asks.names asks.who h.part path) (sets_of tasks h.ones h.twos) text) (path_by_view a b h.part are) says
+ways_by_view : (how : Bool) (a b : View) (asks : Asked) (tasks : List Task) (all : List TaskId) (h : Help) (text : List ℕ) → AreOne a b → SaysWays how asks a tasks all h text → SaysWays how asks b tasks all h text
+ways_by_view false a b asks tasks all h text are says = says
+ways_by_view true a b asks tasks all h text are (since, from, says) = (
+  since,
+  subst (λ (r : Row). SinceIn asks.sort asks.script r all h.part since) (same_rows a b are.one.rows h.part) from,
+  subst (λ (path : List ℕ). AllSaid (SaysWay asks.sort asks.script asks.names asks.who h.part (made_before since) (look_at b h.part) path) (sets_of tasks h.ones h.twos) text) (path_by_view a b h.part are)
+  (subst (λ (look : List ℕ). AllSaid (SaysWay asks.sort asks.script asks.names asks.who h.part (made_before since) look (path_of (part_place a h.part))) (sets_of tasks h.ones h.twos) text)
+  (ap (λ (v : View). look_at v h.part) (same_seen a b are)) says),
+)
 
 part_by_view : (a b : View) (asks : Asked) (tasks : List Task) (all : List TaskId) (h : Help) (text : List ℕ) → AreOne a b → SaysPart asks a tasks all h text → SaysPart asks b tasks all h text
 part_by_view a b asks tasks all h text are (ways, is, says) =
-    (ways, is ∙ ap (λ (l : List ℕ). l ++ ways) (line_by_view a b asks.names tasks all asks.called h are), ways_by_view asks.how a b asks tasks h ways are says)
+    (ways, is ∙ ap (λ (l : List ℕ). l ++ ways) (line_by_view a b asks.names tasks all asks.called h are), ways_by_view asks.how a b asks tasks all h ways are says)
 
 by_view : (a b : View) (asks : Asked) (tasks : List Task) (all : List TaskId) (hs : List Help) (text : List ℕ) → AreOne a b → SaysAll asks a tasks all hs text → SaysAll asks b tasks all hs text
 by_view a b asks tasks all hs text are (said, each, is) = (said, all_said_as (SaysPart asks a tasks all) (SaysPart asks b tasks all) (λ h t says. part_by_view a b asks tasks all h t are says) hs said each, is)
@@ -137,21 +145,26 @@ unfolding line_of
 line_alike v names tasks all who x y are = λ i. line_of v names tasks who (are.part i) (are.ones i) (are.twos i) (before_alike names x y are [] all i)
 
 -- of a set of helpers one thing is said
-ways_once : (sort : Sort) (script : List ℕ) (names : List (List ℕ)) (who : List TaskId) (p : SeenPart) (path : List ℕ) (set : HelpSet) (s t : List ℕ) → SaysWay sort script names who p path set s
-    → SaysWay sort script names who p path set t → s ≡ t
-ways_once sort script names who p path set s t (v, found, is) (w, other, too) =
-    is ∙ (ap (λ (way : Option (List (List ℕ))). way_text (set_name names set) way)
+ways_once : (sort : Sort) (script : List ℕ) (names : List (List ℕ)) (who : List TaskId) (p : SeenPart) (made : Option ℕ) (look path : List ℕ) (set : HelpSet) (s t : List ℕ)
+    → SaysWay sort script names who p made look path set s → SaysWay sort script names who p made look path set t → s ≡ t
+ways_once sort script names who p made look path set s t (v, found, is) (w, other, too) =
+    is ∙ (ap (λ (way : Option (List (List ℕ))). way_text (set_name names set) way (evidence sort script names who made look path set way))
     (first_once (ShowsWith sort who p script) (way_by_helpers names set path) (way_by_all names set who path) v w found other) ∙ sym too)
 
-ways_alike : (how : Bool) (a : Asked) (v : View) (tasks : List Task) (x y : Help) → AreAlike x y → (s t : List ℕ) → SaysWays how a v tasks x s → SaysWays how a v tasks y t → s ≡ t
-ways_alike false a v tasks x y are s t said too = said ∙ sym too
-ways_alike true a v tasks x y are s t said too =
-    let same = coe 0 1 (i. AllSaid (SaysWay a.sort a.script a.names a.who (are.part i) (path_of (part_place v (are.part i)))) (sets_of tasks (are.ones i) (are.twos i)) s) said in
-    all_said_once (SaysWay a.sort a.script a.names a.who y.part (path_of (part_place v y.part))) (ways_once a.sort a.script a.names a.who y.part (path_of (part_place v y.part))) (sets_of tasks y.ones y.twos) s t same too
+ways_alike : (how : Bool) (a : Asked) (v : View) (tasks : List Task) (all : List TaskId) (x y : Help) → AreAlike x y → (s t : List ℕ) → SaysWays how a v tasks all x s → SaysWays how a v tasks all y t → s ≡ t
+ways_alike false a v tasks all x y are s t said too = said ∙ sym too
+ways_alike true a v tasks all x y are s t (since, from, said) (other, too, more) =
+    let Says : Option ℕ → HelpSet → List ℕ → Type 0 = λ n. SaysWay a.sort a.script a.names a.who y.part (made_before n) (look_at v y.part) (path_of (part_place v y.part)) in
+    let when : SinceIn a.sort a.script (row_of v y.part) all y.part since = coe 0 1 (i. SinceIn a.sort a.script (row_of v (are.part i)) all (are.part i) since) from in
+    let one : since ≡ other = since_once (row_of v y.part) all y.part (worlds_from (a.sort.world a.script) (a.sort.parts a.script)) 0 None since other when too in
+    let same : AllSaid (Says since) (sets_of tasks y.ones y.twos) s =
+    coe 0 1 (i. AllSaid (SaysWay a.sort a.script a.names a.who (are.part i) (made_before since) (look_at v (are.part i)) (path_of (part_place v (are.part i)))) (sets_of tasks (are.ones i) (are.twos i)) s) said in
+    all_said_once (Says other) (ways_once a.sort a.script a.names a.who y.part (made_before other) (look_at v y.part) (path_of (part_place v y.part))) (sets_of tasks y.ones y.twos) s t
+    (subst (λ (n : Option ℕ). AllSaid (Says n) (sets_of tasks y.ones y.twos) s) one same) more
 
 part_alike : (a : Asked) (v : View) (tasks : List Task) (all : List TaskId) (x y : Help) → AreAlike x y → (s t : List ℕ) → SaysPart a v tasks all x s → SaysPart a v tasks all y t → s ≡ t
 part_alike a v tasks all x y are s t (ways, is, said) (others, too, more) =
-    is ∙ (ap₂ (λ (l ls : List ℕ). l ++ ls) (line_alike v a.names tasks all a.called x y are) (ways_alike a.how a v tasks x y are ways others said more) ∙ sym too)
+    is ∙ (ap₂ (λ (l ls : List ℕ). l ++ ls) (line_alike v a.names tasks all a.called x y are) (ways_alike a.how a v tasks all x y are ways others said more) ∙ sym too)
 
 all_alike : (a : Asked) (v : View) (tasks : List Task) (all : List TaskId) (R S : Help → Help → Type 0) → ((h x y : Help) → R h x → S h y → AreAlike x y)
     → (hs xs ys : List Help) (s t : List ℕ) → Each R hs xs → Each S hs ys → AllSaid (SaysPart a v tasks all) xs s → AllSaid (SaysPart a v tasks all) ys t → s ≡ t

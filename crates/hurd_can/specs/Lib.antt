@@ -3,6 +3,7 @@ pub mod Noting
 pub mod Listed
 pub mod Remembered
 pub mod Recalling
+pub mod Dated
 pub mod Could
 pub mod Ways
 pub mod Tried

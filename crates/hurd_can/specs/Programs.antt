@@ -1,7 +1,6 @@
 -- The program that prints who could help those that WHO names to see what.
-use Rattle.std.specs.Prelude.{ℕ, Bool, if◌then◌else◌, List, [], ◌∷◌, ◌++◌, codes, is_some, map}
+use Rattle.std.specs.Prelude.{ℕ, Bool, if◌then◌else◌, List, [], ◌∷◌, ◌++◌, codes, is_some}
 use Rattle.hurd_creds.specs.declared.name.TaskId.{TaskId}
-use Rattle.hurd_dialogue.specs.Parts.{Part}
 use Rattle.hurd_dialogue.specs.Sorts.{Sort, last_world}
 use Rattle.hurd_machine.specs.World.{World}
 use Rattle.hurd_sight.specs.Reach.{among}
@@ -15,6 +14,7 @@ use Rattle.hurd_terminal.specs.Runs.{Program}
 use Rattle.hurd_views.specs.Views.{Views}
 use Rattle.hurd_views.specs.declared.view.View.{View}
 use Rattle.hurd_words.specs.Escapes.{escaped}
+use Rattle.hurd_can.specs.Dated.{worlds_from}
 use Rattle.hurd_can.specs.Help.{AreHelped, Help, Picks}
 use Rattle.hurd_can.specs.Listed.{Unseen, listed}
 use Rattle.hurd_can.specs.Remembered.{Each, Remembers}
@@ -26,7 +26,7 @@ abbrev pub others_of : List TaskId → List TaskId → List TaskId
 others_of who [] = []
 others_of who (t ∷ ts) = if among who t.0 then others_of who ts else t ∷ others_of who ts
 
--- a text is what could be shown those who are asked of, in the world w: of the parts that are listed of what all its tasks see together, those that they don't see,
+-- a text is what could be shown WHO, in the world w: of the parts that are listed of what all its tasks see together, those that WHO don't see,
 -- each with the others who could help to see it now, and with those who saw it so in one of these worlds; and with the ways to show it, if they are wanted
 pub record IsCould (a : Asked) (every : Bool) (worlds : List World) (w : World) (text : List ℕ) : Type 0 where
   pub view : View
@@ -39,11 +39,7 @@ pub record IsCould (a : Asked) (every : Bool) (worlds : List World) (w : World) 
   pub remembered : Each (Remembers worlds view (all_tasks w.tasks)) helps noted
   pub says : SaysAll a view w.tasks (all_tasks w.tasks) noted text
 
--- a world, and the worlds after these parts
-abbrev pub worlds_from : World → List Part → List World
-worlds_from w parts = w ∷ map (λ (p : Part). p.world) parts
-
--- those of a text who are to see something
+-- what is asked of a text for these learners
 abbrev pub asked : Sort → Bool → List ℕ → List (List ℕ) → Learners → Asked
 asked sort how text names learners =
     record { sort = sort; script = text; names = names; who = learners.tasks.items; called = learners.names.items; sees = learners.sees.items; how = how }

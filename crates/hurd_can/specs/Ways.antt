@@ -1,9 +1,14 @@
--- Which commands are tried, to show some tasks a part: the helpers, or also those who are to see it, open the way to it.
-use Rattle.std.specs.Prelude.{ℕ, ◌==◌, Bool, true, false, if◌then◌else◌, List, [], ◌∷◌, ◌++◌, codes, drop, get_or}
+-- Which commands are tried, to show WHO a part: the helpers, or WHO with them, open the way to it.
+use Rattle.std.specs.Prelude.{ℕ, ◌==◌, Bool, true, false, if◌then◌else◌, List, [], ◌∷◌, ◌++◌, codes, drop}
 use Rattle.std.specs.List.{slice_split}
 use Rattle.hurd_creds.specs.declared.name.TaskId.{TaskId}
 use Rattle.hurd_ports.specs.Tables.{Task}
+use Rattle.hurd_sight.specs.declared.parts.SeenPart.{SeenPart}
+use Rattle.hurd_sight.specs.declared.parts.SeenPart.TheVariants as seen
+use Rattle.hurd_views.specs.declared.view.View.{View}
+use Rattle.hurd_witnesses.specs.Trials.{part_at, scripted}
 use Rattle.hurd_can.specs.Could.{is_root_task, is_wanted, task_name}
+use Rattle.hurd_can.specs.Listed.{body_at, has_entries}
 use Rattle.hurd_can.specs.declared.helped.Pair.{Pair}
 use Rattle.hurd_can.specs.declared.ways.HelpSet.{HelpSet}
 use Rattle.hurd_can.specs.declared.ways.HelpSet.TheVariants.{One, Two}
@@ -39,22 +44,18 @@ abbrev pub called : List (List ℕ) → List (List ℕ) → List TaskId → List
 called names done [] = done
 called names done (d ∷ ds) = called names (done ++ task_name names d ∷ []) ds
 
--- the names of the helpers; and of these and of those who are to see
-abbrev pub helpers_of : List (List ℕ) → HelpSet → List (List ℕ)
-helpers_of names set = called names [] (tasks_in set)
+-- the names of the helpers; and of these and of WHO
+abbrev pub helper_names : List (List ℕ) → HelpSet → List (List ℕ)
+helper_names names set = called names [] (tasks_in set)
 
-abbrev pub members_of : List (List ℕ) → HelpSet → List TaskId → List (List ℕ)
-members_of names set who = called names (helpers_of names set) who
+abbrev pub member_names : List (List ℕ) → HelpSet → List TaskId → List (List ℕ)
+member_names names set who = called names (helper_names names set) who
 
 -- PATHS
 
--- what is before the first byte of this kind
-abbrev pub before_byte : ℕ → List ℕ → List ℕ
-before_byte c text = get_or (slice_split (λ b. b == c) text) 0 []
-
--- the path of a place, without the words in brackets after it
+-- the path of a place, without the words in brackets after it, as a script writes it
 abbrev pub path_of : List ℕ → List ℕ
-path_of place = before_byte 40 (before_byte 32 place)
+path_of place = scripted (part_at 40 0 (part_at 32 0 place))
 
 -- the names on a path, without its first slash
 abbrev pub names_on : List ℕ → List (List ℕ)
@@ -90,14 +91,21 @@ opens_along roots members path lines (name ∷ names) =
 abbrev pub opens : Bool → List (List ℕ) → List ℕ → List (List ℕ) → List (List ℕ)
 opens roots members path lines = opens_along roots members [] (opens_at roots (codes "/") lines members) (names_on path)
 
--- each of these sends away the server that is active at a path
-abbrev pub clears : List ℕ → List (List ℕ) → List (List ℕ) → List (List ℕ)
-clears path lines [] = lines
-clears path lines (m ∷ ms) = clears path (lines ++ line_by m (codes " settrans -g ") path [] ∷ []) ms
+-- each of these gives this command on a path
+abbrev pub each_does : List ℕ → List ℕ → List (List ℕ) → List (List ℕ) → List (List ℕ)
+each_does word path lines [] = lines
+each_does word path lines (m ∷ ms) = each_does word path (lines ++ line_by m word path [] ∷ []) ms
 
--- two scripts are tried: the helpers open the way; and they and those who are to see it send away a server, and open the way and the roots of servers on it
+-- two scripts are tried: the helpers open the way; and they and WHO send away a server, and open the way and the roots of servers on it
 abbrev pub way_by_helpers : List (List ℕ) → HelpSet → List ℕ → List (List ℕ)
-way_by_helpers names set path = opens false (helpers_of names set) path []
+way_by_helpers names set path = opens false (helper_names names set) path []
 
 abbrev pub way_by_all : List (List ℕ) → HelpSet → List TaskId → List ℕ → List (List ℕ)
-way_by_all names set who path = opens true (members_of names set who) path (clears path [] (members_of names set who))
+way_by_all names set who path = opens true (member_names names set who) path (each_does (codes " settrans -g ") path [] (member_names names set who))
+
+-- the command that looks at a part: at entries, at bytes, at what a server says of itself, or else at attributes
+abbrev pub look_at : View → SeenPart → List ℕ
+look_at v (seen.Body n) = if has_entries (body_at v n) then codes " ls " else codes " cat "
+look_at v (seen.Options n) = codes " fsysopts "
+look_at v (seen.Text n) = codes " fsysopts "
+look_at v _ = codes " ls -d "

@@ -5,7 +5,8 @@ ghost use Rattle.hurd_teaching.specs.Owners.{all_tasks};
 ghost use Rattle.hurd_terminal.specs.Runs.{Adds};
 ghost use Rattle.hurd_world.specs.Held.{world_of};
 ghost use Rattle.hurd_sight.specs.Reach.{among};
-ghost use Rattle.hurd_can.specs.Programs.{IsCould, asking_of, could, others_of, worlds_from};
+ghost use Rattle.hurd_can.specs.Dated.{worlds_from};
+ghost use Rattle.hurd_can.specs.Programs.{IsCould, asking_of, could, others_of};
 ghost use Rattle.hurd_can.specs.Remembered.{Each, Remembers};
 ghost use Rattle.hurd_can.specs.Saying.{SaysAll};
 ghost use Rattle.hurd_can.specs.Ending.{HelpsAtEnd};
@@ -31,7 +32,7 @@ use std::io::Write;
 pub struct Asking<'a> {
     /// The names of its tasks, if they have names.
     pub names: &'a [Bytes],
-    /// Those who are to see.
+    /// WHO, that is, those to whom something could be shown.
     pub learners: &'a Learners,
     /// Whether all other parts are listed too.
     pub every: bool,
@@ -116,7 +117,7 @@ fn remember_all<T: Telling>(
     Ok(())
 }
 
-/// What could be shown those who are called so, in lines.
+/// What could be shown WHO, in lines.
 fn lines_of<S: Server, T: Telling>(
     alloc: Global,
     world: &World<S>,

@@ -6,10 +6,12 @@
 //!
 //! What it can't say is who remembers: it is about what is found out from now on. `remember` notes who saw a part before as it is now. `could_text` begins a text, goes
 //! to its end, and prints a line for each part that those that WHO names don't see: who could help them to see it, and who saw it before. If it is wanted, a script
-//! follows for each set of helpers, which shows them the part: it was tried at the end of the text, and of its lines those are left out that can be.
+//! follows for each set of helpers, which shows them the part: it was tried at the end of the text, and of its lines those are left out that can be. After the script
+//! comes a command of WHO that is answered otherwise than before the command that changed the part last.
 #![tactic(auto)]
 
 mod coulds;
+mod dating;
 mod helped;
 mod laws;
 mod listing;

@@ -52,7 +52,7 @@ fn shows_alike(row: &Row, other: &Row, part: SeenPart) -> bool
 }
 
 /// Whether a view shows a part, and as another view does. Takes no memory.
-fn saw_as(view: &View, last: &View, part: SeenPart) -> bool
+pub(crate) fn saw_as(view: &View, last: &View, part: SeenPart) -> bool
     ensures { IsTrue result ↔ SawAs view.now last.now part }
 {
     match (row_of(view, part), row_of(last, part)) {

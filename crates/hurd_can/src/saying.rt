@@ -5,11 +5,14 @@ ghost use Rattle.hurd_can.specs.Could.{part_place};
 ghost use Rattle.hurd_can.specs.Saying.{SaysAll, SaysPart, SaysWays, asked_of};
 ghost use Rattle.hurd_can.specs.Tried.{AllSaid, SaysWay};
 ghost use Rattle.hurd_can.specs.Ways.{path_of};
+ghost use Rattle.hurd_can.specs.Dated.{SinceIn};
+ghost use Rattle.hurd_can.specs.Remembered.{row_of};
 
+use crate::dating::{made_before, since_in};
 use crate::helped::Helped;
 use crate::text::{Scene, add_count, add_help, add_line, part_place};
 use crate::trying::{Trial, way_said};
-use crate::ways::{HelpSet, path_of, sets_of};
+use crate::ways::{HelpSet, look_at, path_of, sets_of};
 use hurd_creds::Bytes;
 use hurd_dialogue::Telling;
 use std::alloc::{AllocError, Global};
@@ -23,7 +26,7 @@ fn push_sets<T: Telling>(
     path: &[u8],
     sets: &[HelpSet],
 ) -> Result<(), AllocError>
-    ensures { OnOk result ((said : List ℕ) × AllSaid (SaysWay T.sort trial.now.text.now names.now trial.now.who.now trial.now.part path.now) sets.now said × (text.new.items ≡ text.old.items ++ said)) }
+    ensures { OnOk result ((said : List ℕ) × AllSaid (SaysWay T.sort trial.now.text.now names.now trial.now.who.now trial.now.part trial.now.made trial.now.look.now path.now) sets.now said × (text.new.items ≡ text.old.items ++ said)) }
 {
     for set in sets {
         let said = way_said::<T>(alloc, trial, names, path, *set)?;
@@ -39,20 +42,31 @@ fn push_ways<T: Telling>(
     scene: &Scene<'_>,
     helped: &Helped,
 ) -> Result<(), AllocError>
-    ensures { OnOk result ((said : List ℕ) × SaysWays scene.now.how (asked_of T.sort scene.now) scene.now.view.now (map seat_task scene.now.seats.now) helped.now said × (text.new.items ≡ text.old.items ++ said)) }
+    ensures { OnOk result ((said : List ℕ) × SaysWays scene.now.how (asked_of T.sort scene.now) scene.now.view.now (map seat_task scene.now.seats.now) scene.now.tasks.now helped.now said × (text.new.items ≡ text.old.items ++ said)) }
 {
     if !scene.how {
         return Ok(());
     }
+    let part = helped.part();
+    let since = since_in::<T>(alloc, scene.script, scene.view, scene.tasks, part)?;
     let trial = Trial {
         who: scene.learners,
-        part: helped.part(),
+        part,
+        made: made_before(since),
+        look: look_at(scene.view, part),
         text: scene.script,
     };
-    let place = part_place(alloc, scene.view, helped.part())?;
+    let place = part_place(alloc, scene.view, part)?;
     let path = path_of(alloc, place.as_slice())?;
     let sets = sets_of(alloc, scene.seats, helped)?;
-    push_sets::<T>(alloc, text, &trial, scene.names, path, sets.as_slice())
+    push_sets::<T>(
+        alloc,
+        text,
+        &trial,
+        scene.names,
+        path.as_slice(),
+        sets.as_slice(),
+    )
 }
 
 /// Adds the line of a part, and the ways to show it.

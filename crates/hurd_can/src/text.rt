@@ -27,7 +27,7 @@ pub struct Scene<'a> {
     pub seats: &'a [TaskSeat],
     /// Their numbers.
     pub tasks: &'a [TaskId],
-    /// Those who could see, as they are called.
+    /// WHO, as they are called.
     pub who: &'a [u8],
     /// That they see, as `alice sees`.
     pub sees: &'a [u8],

@@ -1,13 +1,17 @@
-//! Commands that may show some tasks a part: helpers, or also those who are to see it, open the way to it.
+//! Commands that may show WHO a part: helpers, or WHO with them, open the way to it.
 ghost use Rattle.std.specs.Prelude.{◌≡◌, ◌++◌, [], ◌∷◌, codes, drop, map, IfOk, OnOk};
 ghost use Rattle.hurd_ports.specs.Seats.{seat_task};
 ghost use Rattle.hurd_can.specs.Could.{is_root_task, is_wanted, task_name};
-ghost use Rattle.hurd_can.specs.Ways.{before_byte, called, clears, helpers_of, line_by, names_on, opened, opens, opens_along, opens_at, path_of, set_name, sets_of, sets_of_one, sets_of_two, way_by_all, way_by_helpers};
+ghost use Rattle.hurd_can.specs.Ways.{called, each_does, helper_names, line_by, look_at, names_on, opened, opens, opens_along, opens_at, path_of, set_name, sets_of, sets_of_one, sets_of_two, way_by_all, way_by_helpers};
 
 use crate::helped::{Helped, Pair};
+use crate::listing::{body_at, has_entries};
 use crate::text::{is_root_task, is_wanted, push_task};
 use hurd_creds::{Bytes, TaskId};
 use hurd_ports::TaskSeat;
+use hurd_sight::SeenPart;
+use hurd_views::View;
+use hurd_witnesses::{part_at, scripted};
 use hurd_words::words::pieces;
 use std::alloc::{AllocError, Global};
 
@@ -84,7 +88,7 @@ fn task_name(alloc: Global, names: &[Bytes], task: TaskId) -> Result<Bytes, Allo
 }
 
 /// Adds the names of these tasks.
-fn add_names(
+pub(crate) fn add_names(
     alloc: Global,
     members: &mut Vec<Bytes>,
     names: &[Bytes],
@@ -99,8 +103,12 @@ fn add_names(
 }
 
 /// The names of the helpers. Fails only if memory runs out.
-fn helpers_of(alloc: Global, names: &[Bytes], set: HelpSet) -> Result<Vec<Bytes>, AllocError>
-    ensures { IfOk result (λ helpers. helpers.items ≡ helpers_of names.now set) }
+pub(crate) fn helper_names(
+    alloc: Global,
+    names: &[Bytes],
+    set: HelpSet,
+) -> Result<Vec<Bytes>, AllocError>
+    ensures { IfOk result (λ helpers. helpers.items ≡ helper_names names.now set) }
 {
     let mut helpers = Vec::new(alloc);
     match set {
@@ -110,23 +118,13 @@ fn helpers_of(alloc: Global, names: &[Bytes], set: HelpSet) -> Result<Vec<Bytes>
     Ok(helpers)
 }
 
-/// What is before the first byte of a kind. Fails only if memory runs out.
-fn before_byte<'a>(alloc: Global, text: &'a [u8], byte: u8) -> Result<&'a [u8], AllocError>
-    ensures { IfOk result (λ front. front.now ≡ before_byte byte text.entry.now) }
+/// The path of a place, without the words in brackets after it, as a script writes it. Fails only if memory runs out.
+pub(crate) fn path_of(alloc: Global, place: &[u8]) -> Result<Vec<u8>, AllocError>
+    ensures { IfOk result (λ path. path.items ≡ path_of place.now) }
 {
-    let parts = pieces(alloc, text, byte)?;
-    match parts.as_slice().get(0) {
-        Some(part) => Ok(*part),
-        None => Ok(b""),
-    }
-}
-
-/// The path of a place, without the words in brackets after it. Fails only if memory runs out.
-pub(crate) fn path_of<'a>(alloc: Global, place: &'a [u8]) -> Result<&'a [u8], AllocError>
-    ensures { IfOk result (λ path. path.now ≡ path_of place.entry.now) }
-{
-    let word = before_byte(alloc, place, b' ')?;
-    before_byte(alloc, word, b'(')
+    let word = part_at(alloc, place, b' ', 0)?;
+    let path = part_at(alloc, word, b'(', 0)?;
+    scripted(alloc, path)
 }
 
 /// Adds a line of a script: a user's command on a path.
@@ -224,19 +222,32 @@ fn push_opens(
     push_opens_along(alloc, lines, roots, members, names.as_slice())
 }
 
-/// Adds that each of these members sends away the server that is active at a path.
-fn push_clears(
+/// Adds that each of these members gives this command on a path.
+pub(crate) fn push_each(
     alloc: Global,
     lines: &mut Vec<Bytes>,
     members: &[Bytes],
+    word: &[u8],
     path: &[u8],
 ) -> Result<(), AllocError>
-    ensures { OnOk result (lines.new.items ≡ clears path.now lines.old.items members.now) }
+    ensures { OnOk result (lines.new.items ≡ each_does word.now path.now lines.old.items members.now) }
 {
     for member in members {
-        push_line(alloc, lines, member, b" settrans -g ", path, b"")?;
+        push_line(alloc, lines, member, word, path, b"")?;
     }
     Ok(())
+}
+
+/// The command that looks at a part.
+pub(crate) fn look_at(view: &View, part: SeenPart) -> &'static [u8]
+    ensures { result.now ≡ look_at view.now part }
+{
+    match part {
+        SeenPart::Body(name) if has_entries(body_at(view, name)) => b" ls ",
+        SeenPart::Body(_) => b" cat ",
+        SeenPart::Options(_) | SeenPart::Text(_) => b" fsysopts ",
+        _ => b" ls -d ",
+    }
 }
 
 /// A script in which the helpers open the way to a path. Fails only if memory runs out.
@@ -248,13 +259,13 @@ pub(crate) fn way_by_helpers(
 ) -> Result<Vec<Bytes>, AllocError>
     ensures { IfOk result (λ lines. lines.items ≡ way_by_helpers names.now set path.now) }
 {
-    let helpers = helpers_of(alloc, names, set)?;
+    let helpers = helper_names(alloc, names, set)?;
     let mut lines = Vec::new(alloc);
     push_opens(alloc, &mut lines, false, helpers.as_slice(), path)?;
     Ok(lines)
 }
 
-/// A script in which the helpers and those who are to see send away the server that is active at a path, and open the way to it, and the roots of servers on the way.
+/// A script in which the helpers and WHO send away the server that is active at a path, and open the way to it, and the roots of servers on the way.
 /// Fails only if memory runs out.
 pub(crate) fn way_by_all(
     alloc: Global,
@@ -265,10 +276,16 @@ pub(crate) fn way_by_all(
 ) -> Result<Vec<Bytes>, AllocError>
     ensures { IfOk result (λ lines. lines.items ≡ way_by_all names.now set who.now path.now) }
 {
-    let mut members = helpers_of(alloc, names, set)?;
+    let mut members = helper_names(alloc, names, set)?;
     add_names(alloc, &mut members, names, who)?;
     let mut lines = Vec::new(alloc);
-    push_clears(alloc, &mut lines, members.as_slice(), path)?;
+    push_each(
+        alloc,
+        &mut lines,
+        members.as_slice(),
+        b" settrans -g ",
+        path,
+    )?;
     push_opens(alloc, &mut lines, true, members.as_slice(), path)?;
     Ok(lines)
 }

@@ -28,6 +28,10 @@ unfoldable pub said_of : List (List ℕ) → List (List ℕ)
 said_of [] = []
 said_of (line ∷ lines) = if is_skipped line then said_of lines else line ∷ said_of lines
 
+-- a script up to a command: the first lines that say something, and so many commands after them
+abbrev pub text_up_to : List ℕ → ℕ → ℕ → List ℕ
+text_up_to script first made = text_of (take first (said_of (lines_of script))) ++ text_of (take made (drop first (said_of (lines_of script))))
+
 -- WITNESSES
 
 -- a trial that gets two replies, of which what is printed with marks is not the same, is a witness
@@ -73,13 +77,18 @@ differ_text a b = text_if (bytes_eq (shown_answer a) (shown_answer b)) (place_te
 unfoldable pub replies_text : Answer → Answer → List ℕ
 replies_text a b = labelled (codes "      before: ") (shown_answer a) ++ (labelled (codes "      after:  ") (shown_answer b) ++ differ_text a b)
 
--- what is said of one: `    try alice cat /motd`, and both replies, `      before: ! ENOENT` and `      after:  Welcome\n`; or how many commands were tried if there is none
+-- how many commands were tried, if there is none
 abbrev pub no_witness_text : ℕ → List ℕ
 no_witness_text tried = if tried == 0 then codes "    nothing to try: not a path\n" else codes "    tried " ++ (decimal tried ++ codes " commands: none shows it\n")
 
+-- what is said of one: `    try alice cat /motd`, and both replies, `      before: ! ENOENT` and `      after:  Welcome\n`
+abbrev pub shown_text : Witness → List ℕ
+shown_text w = labelled (codes "    try ") w.trial ++ replies_text w.before w.after
+
+-- or that there is none
 abbrev pub witness_text : ℕ → Option Witness → List ℕ
 witness_text tried None = no_witness_text tried
-witness_text tried (Some w) = labelled (codes "    try ") w.trial ++ replies_text w.before w.after
+witness_text tried (Some w) = shown_text w
 
 -- what is said of what was learned by the command before which so many stand, by these trials
 abbrev pub said_by : Sort → Hunt → ℕ → List (List ℕ) → List ℕ

@@ -38,7 +38,7 @@ fn learned<T: Telling>(alloc: Global, word: &str, text: &[u8]) -> Result<Vec<u8>
 }
 
 /// By how many lines that say something the parts of a text are preceded. Fails if memory runs out, or if the text is bad.
-fn lines_before<T: Telling>(alloc: Global, text: &[u8]) -> Result<usize, AllocError>
+pub fn lines_before<T: Telling>(alloc: Global, text: &[u8]) -> Result<usize, AllocError>
     ensures { IfOk result (λ lines. lines ≡ T.sort.heading text.now - 1) }
 {
     match T::begun(alloc, text) {

@@ -3,7 +3,7 @@ ghost use Rattle.std.specs.Prelude.{◌≡◌, ◌==◌, ◌++◌, ℕ, IfOk, On
 ghost use Rattle.std.specs.List.{slice_split};
 ghost use Rattle.hurd_words.specs.Lines.{lines_of};
 ghost use Rattle.hurd_witnesses.specs.Trials.{head_of};
-ghost use Rattle.hurd_witnesses.specs.Witnesses.{IsHunt, ended, said_of, text_of};
+ghost use Rattle.hurd_witnesses.specs.Witnesses.{IsHunt, ended, said_of, text_of, text_up_to};
 
 use hurd_creds::Bytes;
 use hurd_words::lines::is_skipped;
@@ -113,6 +113,23 @@ fn behind(alloc: Global, lines: &[Bytes], count: usize) -> Result<Vec<Bytes>, Al
         Some(behind) => copied(alloc, behind),
         None => Ok(Vec::new(alloc)),
     }
+}
+
+/// The text of a script up to a command: the first lines that say something, and so many commands after them. Fails only if memory runs out.
+pub fn text_up_to(
+    alloc: Global,
+    script: &[u8],
+    first: usize,
+    made: usize,
+) -> Result<Vec<u8>, AllocError>
+    ensures { IfOk result (λ text. text.items ≡ text_up_to script.now first made) }
+{
+    let lines = said_lines(alloc, script)?;
+    let mut text = text_of(alloc, lines.as_slice(), first)?;
+    let commands = behind(alloc, lines.as_slice(), first)?;
+    let more = text_of(alloc, commands.as_slice(), made)?;
+    text.extend_from_slice(more.as_slice())?;
+    Ok(text)
 }
 
 /// Those that WHO names, and a script in which so many lines that say something stand before its commands. Fails only if memory runs out.

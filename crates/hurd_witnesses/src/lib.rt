@@ -5,6 +5,9 @@
 //! it; both are made anew for each trial, since no world can be copied. At most 16 commands are tried of a line.
 //!
 //! A witness is a sample, no bound: where none is found, others may be.
+//!
+//! `witness_of` looks for one between any two texts, among any commands: `trials_on` gives those on a path, `text_up_to` a script up to a command, and `push_shown`
+//! prints what was found.
 #![tactic(auto)]
 
 mod answers;
@@ -18,6 +21,9 @@ mod shown;
 mod trials;
 mod witness;
 
-pub use finding::find_text;
+pub use finding::{find_text, lines_before};
+pub use hunt::text_up_to;
 pub use laws::{one_finding_is_printed, witnesses_tell};
-pub use witness::Witness;
+pub use places::{part_at, scripted};
+pub use trials::trials_on;
+pub use witness::{Witness, push_shown, witness_of};

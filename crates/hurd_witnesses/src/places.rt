@@ -17,7 +17,7 @@ pub enum Stand {
 }
 
 /// A part of a line between bytes of one kind, counted from 0; nothing where there are fewer. Fails only if memory runs out.
-pub(crate) fn part_at<'a>(
+pub fn part_at<'a>(
     alloc: Global,
     line: &'a [u8],
     at: u8,
@@ -97,7 +97,7 @@ fn take_byte(text: &mut Vec<u8>, stand: Stand, byte: u8) -> Result<Stand, AllocE
 }
 
 /// A place as a script writes it. Fails only if memory runs out.
-fn scripted(alloc: Global, place: &[u8]) -> Result<Vec<u8>, AllocError>
+pub fn scripted(alloc: Global, place: &[u8]) -> Result<Vec<u8>, AllocError>
     ensures { IfOk result (λ word. word.items ≡ scripted place.now) }
 {
     let mut text = Vec::new(alloc);

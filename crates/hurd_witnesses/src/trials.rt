@@ -125,8 +125,8 @@ fn lines_by(alloc: Global, users: &[Bytes], commands: &[Bytes]) -> Result<Vec<By
     Ok(lines)
 }
 
-/// The first 16 of them; none where the place is no path. Fails only if memory runs out.
-fn trials_on(
+/// The first 16 commands that these users can give on a path, and on an entry of it if there is a name; none if the place is no path. Fails only if memory runs out.
+pub fn trials_on(
     alloc: Global,
     users: &[Bytes],
     path: &[u8],

@@ -3,7 +3,7 @@ ghost use Rattle.std.specs.Prelude.{◌≡◌, ◌++◌, IfOk, OnOk, codes, deci
 ghost use Rattle.hurd_witnesses.specs.Answers.{answer_of, first_difference, marks_of};
 ghost use Rattle.hurd_words.specs.Marks.{marked};
 ghost use Rattle.hurd_words.specs.Printing.{text_if};
-ghost use Rattle.hurd_witnesses.specs.Witnesses.{ended, labelled, no_witness_text, place_text, replies_text, said_by, text_before, told_apart, tried, witness_by, witness_of, witness_text};
+ghost use Rattle.hurd_witnesses.specs.Witnesses.{ended, labelled, no_witness_text, place_text, replies_text, said_by, shown_text, text_before, told_apart, tried, witness_by, witness_of, witness_text};
 
 use crate::answers::answer;
 use crate::hunt::{Hunt, push_line, text_of};
@@ -84,8 +84,8 @@ fn tried<T: Telling>(
     told_apart(alloc, trial, first, second)
 }
 
-/// The first of some trials that is one. Fails only if memory runs out.
-fn witness_of<T: Telling>(
+/// The first of some lines that is answered otherwise as the last line of one text than of another. Fails only if memory runs out.
+pub fn witness_of<T: Telling>(
     alloc: Global,
     before: &[u8],
     behind: &[u8],
@@ -213,6 +213,14 @@ fn push_replies(
     push_differ(alloc, text, alike, before, after)
 }
 
+/// Adds a witness: its line, and both replies. Fails only if memory runs out.
+pub fn push_shown(alloc: Global, text: &mut Vec<u8>, witness: &Witness) -> Result<(), AllocError>
+    ensures { OnOk result (text.new.items ≡ text.old.items ++ shown_text witness.now) }
+{
+    push_labelled(text, b"    try ", witness.trial.as_slice())?;
+    push_replies(alloc, text, &witness.before, &witness.after)
+}
+
 /// Adds what is said of a witness, or that there is none.
 fn push_witness(
     alloc: Global,
@@ -222,11 +230,10 @@ fn push_witness(
 ) -> Result<(), AllocError>
     ensures { OnOk result (text.new.items ≡ text.old.items ++ witness_text tried witness.now) }
 {
-    let Some(witness) = witness else {
-        return push_none(text, tried);
-    };
-    push_labelled(text, b"    try ", witness.trial.as_slice())?;
-    push_replies(alloc, text, &witness.before, &witness.after)
+    match witness {
+        Some(witness) => push_shown(alloc, text, witness),
+        None => push_none(text, tried),
+    }
 }
 
 /// Adds what is said of what was learned by the command before which so many stand, by these trials.

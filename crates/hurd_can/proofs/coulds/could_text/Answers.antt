@@ -4,7 +4,8 @@ use Rattle.hurd_terminal.proofs.RunLaws.{no_memory}
 use Rattle.hurd_dialogue.proofs.Printed.{not_begun_adds}
 use Rattle.hurd_teaching.proofs.ProgramLaws.{nobody_adds}
 use Rattle.hurd_dialogue.specs.Parts.{world_behind}
-use Rattle.hurd_can.specs.Programs.{IsCould, asked, could, worlds_from}
+use Rattle.hurd_can.specs.Dated.{worlds_from}
+use Rattle.hurd_can.specs.Programs.{IsCould, asked, could}
 use Rattle.hurd_can.proofs.EndLaws.{could_adds}
 use Rattle.hurd_can.proofs.coulds.could_text.Goals as goal
 

@@ -5,7 +5,8 @@ use Rattle.hurd_teaching.proofs.PictureLaws.{said_so}
 use Rattle.hurd_views.specs.declared.view.View.{View}
 use Rattle.hurd_world.specs.Held.{world_of}
 use Rattle.hurd_can.specs.Ending.{HelpsAtEnd}
-use Rattle.hurd_can.specs.Programs.{asking_of, worlds_from}
+use Rattle.hurd_can.specs.Dated.{worlds_from}
+use Rattle.hurd_can.specs.Programs.{asking_of}
 use Rattle.hurd_can.proofs.EndLaws.{could_be}
 use Rattle.hurd_can.proofs.coulds.looked.Goals as goal
 

@@ -9,6 +9,6 @@ pub returns : goal.returns
 returns g c =
     let scene = c.args.scene.now in
     let tasks = map seat_task scene.seats.now in
-    both_said (SaysWays scene.how (asked_of g.T.Telling.sort scene) scene.view.now tasks c.args.helped.now) (SaysPart (asked_of g.T.Telling.sort scene) scene.view.now tasks scene.tasks.now c.args.helped.now)
+    both_said (SaysWays scene.how (asked_of g.T.Telling.sort scene) scene.view.now tasks scene.tasks.now c.args.helped.now) (SaysPart (asked_of g.T.Telling.sort scene) scene.view.now tasks scene.tasks.now c.args.helped.now)
     c.args.text.now.items c.add_line.new.text.items c.push_ways.new.text.items (could_line scene.view.now scene.names.now tasks scene.tasks.now scene.who.now c.args.helped.now) c.push_ways.result c.in_ok-add_line.ensures
     (λ rest says. (rest, refl, says)) c.push_ways.ensures
