@@ -1,3 +1,4 @@
 pub mod Held
 pub mod Ends
+pub mod Calls
 pub mod Texts

@@ -77,7 +77,8 @@ fn watched(alloc: Global, sitting: &mut Sitting, who: &[u8]) -> Said
     ending(ended, sitting.told().len())
 }
 
-/// From now on `hurd_make` adds, after each call by others, what the tasks in `who` learn from it; their numbers are separated by commas. If `who` is empty, it adds nothing.
+/// From now on `hurd_make` adds, after each call by others, what the tasks in `who` learn from it, and `hurd_call` tells that alone; their numbers are separated by
+/// commas. If `who` is empty, nothing is added.
 /// What was told before stays told. Where one of them isn't there, or memory is refused, nothing changes.
 #[unsafe(no_mangle)]
 pub extern "C" fn hurd_watch(alloc: Global, world: &mut Handle, who: &[u8]) -> Said

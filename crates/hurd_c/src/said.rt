@@ -10,7 +10,7 @@ use hurd_terminal::Fault;
 #[derive(Clone, Copy, Debug)]
 pub struct Said {
     /// 0 all was made and told; 1 the text is bad; 2 the world was refused; 3 memory was refused; 4 there is no world; 5 somebody is named who isn't
-    /// there; 6 there is no sort of texts of this number.
+    /// there; 6 there is no sort of texts of this number; 7 these numbers and bytes make no call, or have no line.
     pub status: u32,
     /// The number of the refusal where the world was refused, else 0.
     pub error: u32,

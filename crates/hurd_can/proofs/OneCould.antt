@@ -77,8 +77,8 @@ ways_by_view true a b asks tasks all h text are (since, from, says) = (
   since,
   subst (λ (r : Row). SinceIn asks.sort asks.script r all h.part since) (same_rows a b are.one.rows h.part) from,
   subst (λ (path : List ℕ). AllSaid (SaysWay asks.sort asks.script asks.names asks.who h.part (made_before since) (look_at b h.part) path) (sets_of tasks h.ones h.twos) text) (path_by_view a b h.part are)
-  (subst (λ (look : List ℕ). AllSaid (SaysWay asks.sort asks.script asks.names asks.who h.part (made_before since) look (path_of (part_place a h.part))) (sets_of tasks h.ones h.twos) text)
-  (ap (λ (v : View). look_at v h.part) (same_seen a b are)) says),
+      (subst (λ (look : List ℕ). AllSaid (SaysWay asks.sort asks.script asks.names asks.who h.part (made_before since) look (path_of (part_place a h.part))) (sets_of tasks h.ones h.twos) text)
+      (ap (λ (v : View). look_at v h.part) (same_seen a b are)) says),
 )
 
 part_by_view : (a b : View) (asks : Asked) (tasks : List Task) (all : List TaskId) (h : Help) (text : List ℕ) → AreOne a b → SaysPart asks a tasks all h text → SaysPart asks b tasks all h text

@@ -4,3 +4,4 @@ pub mod NumberLaws
 pub mod MadeLaws
 pub mod ReadLaws
 pub mod TextLaws
+pub mod ReplyLaws

@@ -1,4 +1,5 @@
 pub mod Sittings
+pub mod Replies
 pub mod Watching
 pub mod Staged
 pub mod Kept

@@ -8,10 +8,13 @@
 //! After a call by another task, what they see is looked at again only if the call touched something of it. So a call that touches nothing that they see costs no look,
 //! in the same text or in a later one.
 //!
+//! `Sitting::call` makes one call without any text, and gives its reply. Those who are watched are told the same of it as of a call in a text.
+//!
 //! Texts that are made one after another tell what one list of their calls tells, and leave the same world: `calls_are_one` says it of calls, `texts_are_one`
 //! of the bytes of a list and of a text after it.
 #![tactic(auto)]
 
+mod answering;
 mod laws;
 mod making;
 mod naming;

@@ -39,7 +39,7 @@ fn made(
 }
 
 /// What these learn by a call; nothing if it is known that what they see is as it was. Fails only if memory runs out.
-fn learned(
+pub(crate) fn learned(
     alloc: Global,
     world: &World<ServerBox>,
     learners: &Learners,
@@ -57,7 +57,7 @@ fn learned(
 }
 
 /// Looks at what these see before a call by another, unless that was done, and notes from then on what is touched. Fails only if memory runs out.
-fn looked(
+pub(crate) fn looked(
     world: &mut World<ServerBox>,
     alloc: Global,
     learners: &Learners,

@@ -1,20 +1,25 @@
 //! A world that is kept, with what the last text told.
-ghost use Rattle.std.specs.Prelude.{◌≡◌, None, IfErr, IfOk, OnOk, length};
+ghost use Rattle.std.specs.Prelude.{◌≡◌, ◌⊎◌, [], None, IfErr, IfOk, OnOk, length};
 ghost use Rattle.hurd_kinds.specs.Boxes.{box_meaning};
-ghost use Rattle.hurd_lists.specs.Lists.{reading_of};
+ghost use Rattle.hurd_lists.specs.Lists.{listed_by, reading_of};
+ghost use Rattle.hurd_machine.specs.Calls.{reply_by};
 ghost use Rattle.hurd_calls.specs.Lists.{lists};
+ghost use Rattle.hurd_calls.specs.Making.{after_call};
 ghost use Rattle.hurd_calls.specs.Readings.{said_in};
 ghost use Rattle.hurd_dialogue.specs.Sorts.{NotBegun};
 ghost use Rattle.hurd_world.specs.Held.{world_of};
 ghost use Rattle.hurd_sitting.specs.Sittings.{Begins, Makes, NotMade};
 ghost use Rattle.hurd_sitting.specs.Kept.{SameStand, SameWatch, learners_in, tasks_in, told_in, world_in};
+ghost use Rattle.hurd_sitting.specs.Replies.{Replies};
 ghost use Rattle.hurd_sitting.specs.Watching.{NotWatched, Watches};
 
+use crate::answering::Replied;
 use crate::stage::Stage;
 use hurd_calls::{begun, parsed};
 use hurd_dialogue::boxed;
 use hurd_kinds::{ServerBox, empty_tree};
-use hurd_lists::CallList;
+use hurd_lists::{CallList, ListedCall};
+use hurd_machine::Reply;
 use hurd_terminal::Fault;
 use hurd_world::World;
 use std::alloc::Global;
@@ -69,7 +74,25 @@ impl Sitting {
         Ok(self.stage.make(alloc, calls, &mut self.told)?)
     }
 
-    /// From now on `make` tells what the tasks learn whose numbers `who` lists, separated by commas; nothing of that if it has no bytes.
+    /// Makes one call, and gives its reply. Then `told` is what those who are watched learn by it: nothing of a call of their own.
+    ///
+    /// Fails only if memory runs out: then nothing is told, and the call was made, or nothing changed.
+    pub fn call(
+        &mut self,
+        alloc: Global,
+        listed: ListedCall<ServerBox>,
+    ) -> Result<Reply<ServerBox>, AllocError>
+        ensures replies { IfOk result (λ reply. Replies (learners_in self.old) (listed_by box_meaning listed) (world_in self.old) (reply_by box_meaning reply) (told_in self.new) (world_in self.new)) }
+        ensures err { IfErr result (λ _. (told_in self.new ≡ []) × ((world_in self.new ≡ world_in self.old) ⊎ (world_in self.new ≡ after_call (listed_by box_meaning listed) (world_in self.old)))) }
+        ensures watch { SameWatch self.old self.new }
+    {
+        self.told.clear();
+        let Replied { reply, told } = self.stage.call(alloc, listed)?;
+        self.told = told.into_vec();
+        Ok(reply)
+    }
+
+    /// From now on `make` and `call` tell what the tasks learn whose numbers `who` lists, separated by commas; nothing of that if it has no bytes.
     ///
     /// Errors, in order: `Unknown` where one of them isn't there; `Memory` at any point. Then nothing changes.
     pub fn watch(&mut self, alloc: Global, who: &[u8]) -> Result<(), Fault>

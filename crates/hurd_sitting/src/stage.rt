@@ -1,12 +1,17 @@
 //! A world, with the tasks that are watched in it and what they saw of it.
-ghost use Rattle.std.specs.Prelude.{◌≡◌, None, IfErr, IfOk, OnOk};
+ghost use Rattle.std.specs.Prelude.{◌≡◌, ◌⊎◌, None, IfErr, IfOk, OnOk};
 ghost use Rattle.std.specs.Option.{option_map};
 ghost use Rattle.hurd_kinds.specs.Boxes.{box_meaning};
+ghost use Rattle.hurd_lists.specs.Lists.{listed_by};
+ghost use Rattle.hurd_machine.specs.Calls.{reply_by};
 ghost use Rattle.hurd_machine.specs.Sound.{Sound};
 ghost use Rattle.hurd_world.specs.Held.{world_of};
+ghost use Rattle.hurd_calls.specs.Making.{after_call};
+ghost use Rattle.hurd_sitting.specs.Replies.{Replies};
 ghost use Rattle.hurd_sitting.specs.Sittings.{Adds, SomeMade, behind, listed};
 ghost use Rattle.hurd_sitting.specs.Watching.{NotWatched, Watches};
 
+use crate::answering::{Replied, replied_with};
 use crate::making::make_all;
 use crate::naming::watched;
 use hurd_kinds::ServerBox;
@@ -81,6 +86,23 @@ impl Stage {
         )?;
         self.watch = watch;
         Ok(())
+    }
+
+    /// Makes a call, and gives its reply, and what is told of it. Fails only if memory runs out: then the call was made, or nothing changed.
+    pub(crate) fn call(
+        &mut self,
+        alloc: Global,
+        listed: ListedCall<ServerBox>,
+    ) -> Result<Replied, AllocError>
+        ensures replies { IfOk result (λ r. Replies self.old.learners (listed_by box_meaning listed) (world_of box_meaning self.old.world) (reply_by box_meaning r.reply) r.told (world_of box_meaning self.new.world)) }
+        ensures err { IfErr result (λ _. (world_of box_meaning self.new.world ≡ world_of box_meaning self.old.world)
+            ⊎ (world_of box_meaning self.new.world ≡ after_call (listed_by box_meaning listed) (world_of box_meaning self.old.world))) }
+        ensures learners { self.new.learners ≡ self.old.learners }
+    {
+        let mut watch = mem::replace(&mut self.watch, Watch::new());
+        let replied = replied_with(&mut self.world, alloc, listed, &self.learners, &mut watch)?;
+        self.watch = watch;
+        Ok(replied)
     }
 
     /// Watches the tasks whose numbers `who` lists, separated by commas; no task if it has no bytes. There are `count` tasks.

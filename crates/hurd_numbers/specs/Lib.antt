@@ -1,0 +1,5 @@
+pub mod Flags
+pub mod Words
+pub mod Calls
+pub mod Figures
+pub mod Lines

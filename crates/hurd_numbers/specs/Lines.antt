@@ -1,0 +1,21 @@
+-- The line of a list that makes the call of numbers and bytes.
+use Rattle.std.specs.Prelude.{◌≡◌, ℕ, List, [], ◌∷◌, Option, Some, Ok}
+use Rattle.hurd_lists.specs.Lists.{Listed, Standing, reading_of}
+use Rattle.hurd_numbers.specs.Calls.{numbered}
+use Rattle.hurd_numbers.specs.declared.calls.Numbers.{Numbers}
+
+-- these calls are this one alone, with a line of its own
+abbrev pub IsOnly : List Listed → Listed → Type 0
+IsOnly calls c = (line : List ℕ) × (calls ≡ record c { line = line } ∷ [])
+
+-- no task is said, and this one call
+abbrev pub HasOnly : Standing → Listed → Type 0
+HasOnly s c = (s.tasks ≡ []) × IsOnly s.calls c
+
+-- a line that is read as the call of numbers and bytes, and as nothing else
+pub record IsLineOf (n : Numbers) (bytes line : List ℕ) : Type 0 where
+  pub call : Listed
+  pub is : numbered n bytes ≡ Some call
+  pub said : Standing
+  pub reads : reading_of line ≡ Ok said
+  pub only : HasOnly said call
