@@ -113,7 +113,11 @@ pub(crate) fn stranger_line(alloc: Global, request: &Request) -> Result<Vec<u8>,
         Verb::Learn { who, .. } | Verb::See { who, .. } | Verb::Can { who, .. } => {
             named_line(alloc, stranger(request.sort), who.as_str())
         }
-        Verb::Draw { who: Some(who), .. } => named_line(alloc, stranger(request.sort), who.as_str()),
+        Verb::Draw { who: Some(who), .. } => named_line(
+            alloc,
+            stranger(request.sort),
+            who.as_str(),
+        ),
         Verb::Draw { who: None, .. } => Ok(Vec::new(alloc)),
     }
 }

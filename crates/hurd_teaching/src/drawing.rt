@@ -2,7 +2,6 @@
 ghost use Rattle.std.specs.Prelude.{◌≡◌, ◌≢◌, Some, None, Err, IfOk, false, option_copied, string_bytes, true};
 ghost use Rattle.std.specs.Option.{option_map};
 ghost use Rattle.hurd_world.specs.Held.{world_of};
-ghost use Rattle.hurd_machine.specs.World.{World};
 ghost use Rattle.hurd_terminal.specs.Runs.{Adds};
 ghost use Rattle.hurd_dialogue.specs.Parts.{world_behind};
 ghost use Rattle.hurd_views.specs.Views.{Views};
@@ -127,8 +126,8 @@ fn drawn_for<T: Telling>(
     learners: &Learners,
     can: bool,
 ) -> Result<Bytes, AllocError>
-    ensures { let last : World = world_behind (T.way telling.old).world (T.way telling.old).left in
-        IfOk result (λ text. IsDrawn (T.way telling.old).names (Some (marked_by can learners.now last)) last text) }
+    ensures { IfOk result (λ text. IsDrawn (T.way telling.old).names (Some (marked_by can learners.now (world_behind (T.way telling.old).world (T.way telling.old).left)))
+        (world_behind (T.way telling.old).world (T.way telling.old).left) text) }
 {
     let names = copied_names(alloc, telling.names())?;
     play_silently(alloc, telling)?;
