@@ -22,7 +22,7 @@ pub record Marked : Type 0 where
   pub called : List ℕ
   pub wide : Option (List TaskId)
 
--- those who learn are marked; if it is wanted, the wider view is theirs and of all tasks of the world that do not have the uid of root
+-- those who learn are marked; the wider view, if it is wanted, is of them and of all without root's uid
 abbrev pub marked_by : Bool → Learners → World → Marked
 marked_by can learners w = record {
   tasks = learners.tasks.items;
@@ -50,7 +50,7 @@ abbrev pub SeenBy : Option (List TaskId) → World → Option View → Type 0
 SeenBy None w seen = seen ≡ None
 SeenBy (Some tasks) w seen = (view : View) × (seen ≡ Some view) × Views tasks w view
 
--- a text is the picture of a world whose tasks have these names: of all that its tasks see together, with what those see who are called so, and a wider view
+-- a text is the picture of all that a world's tasks see together, by these names, with what others see, and a wider view
 pub record IsPicture (names : List (List ℕ)) (who : List ℕ) (seen wide : Option View) (w : World) (text : List ℕ) : Type 0 where
   pub titles : Titles
   pub named : titles.tasks.items ≡ names
@@ -67,7 +67,7 @@ pub record IsDrawn (names : List (List ℕ)) (marked : Option Marked) (w : World
   pub helped : SeenBy (wide_tasks marked) w wide
   pub is : IsPicture names (called_of marked) seen wide w text
 
--- the picture of a text at its end, in which it is marked what those that WHO names see, and what others could show them, if that is wanted
+-- the picture of a text at its end, marked with what WHO see, and with what others could show them, if that is wanted
 abbrev pub DrawnFor : Sort → Bool → Option (List ℕ) → List ℕ → List ℕ → Type 0
 DrawnFor sort can None text printed = IsDrawn (sort.names text) None (last_world sort text) printed
 DrawnFor sort can (Some word) text printed =
