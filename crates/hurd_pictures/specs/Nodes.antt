@@ -27,7 +27,7 @@ mark_in r = if is_some r.body then Inside else if is_some r.attributes then Outs
 abbrev pub shows_more : Row → Row → Bool
 shows_more wide r = (is_some wide.body && not (is_some r.body)) || (is_some wide.attributes && not (is_some r.attributes))
 
--- how much of a node is seen by those whose row this is, or that others could show more of it, if there is a wider view
+-- how much of a node is seen by this row, or, by a wider view, that others could show more of it
 abbrev pub mark_with : Row → Option View → Name → Mark
 mark_with r None n = mark_in r
 mark_with r (Some wide) n = if shows_more (row_at wide.rows n) r then Helped else mark_in r

@@ -1,7 +1,7 @@
 //! What it means that a node is marked, and what may stand in a label.
 ghost use Rattle.hurd_pictures.specs.Laws.{DrawnHelpedWhereMore, DrawnUnseenWhereUnseen, LabelsArePlain};
 
-/// A law: without a wider view a node is drawn as unseen exactly where those who are marked see neither its attributes nor what is in it.
+/// A law: with no wider view, a node is drawn as unseen exactly where those marked see neither its attributes nor what is in it.
 pub fn drawn_unseen_where_unseen()
     ensures { DrawnUnseenWhereUnseen }
 {}

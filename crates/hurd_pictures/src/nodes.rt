@@ -61,7 +61,7 @@ fn shows_more(wide: &View, view: &View, name: Name) -> bool
     has_body(wide, name) && !has_body(view, name) || is_seen(wide, name) && !is_seen(view, name)
 }
 
-/// How much of a node is seen by those whose view this is, or that others could show more of it, if there is a wider view.
+/// How much of a node is seen by those whose view this is, or, by a wider view, that others could show more of it.
 fn mark_with(view: &View, wide: Option<&View>, name: Name) -> Mark
     ensures { result ≡ mark_with (row_at view.now.rows name) (option_copied wide.entry) name }
 {
