@@ -8,7 +8,7 @@ _hurd_takes() {
         learn) operands=(WHO FILE) options=(--calls --how --max-look --max-output -h --help) ;;
         see) operands=(WHO FILE) options=(--calls --max-look --max-output -h --help) ;;
         can) operands=(WHO FILE) options=(--all --calls --how --max-output -h --help) ;;
-        draw) operands=(FILE) options=(--as --calls --max-output -h --help) ;;
+        draw) operands=(FILE) options=(--as --calls --can --max-output -h --help) ;;
         compare) operands=(WHO FILE FILE) options=(--max-output -h --help) ;;
         sample) operands=() options=(--calls --max-output -h --help) ;;
         help) operands=(VERB) options=() ;;

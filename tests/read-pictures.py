@@ -1,10 +1,11 @@
 #!/usr/bin/env python3
 """Reads pictures that `hurd draw` printed, line by line, and compares them with what `hurd see` prints of the same text.
 
-In the folder that is named there are, for each text NAME: NAME itself, NAME.dot and, where somebody is marked, NAME.as.dot; where they were asked for, NAME.all, what all see
-together, and NAME.seen, what those see who are marked. Each line of a picture is of a known form, and each byte is printable ASCII. Of NAME.all and NAME.dot the
+In the folder that is named there are, for each text NAME: NAME itself, NAME.dot and, where somebody is marked, NAME.as.dot and NAME.can.dot; where they were asked for, NAME.all,
+what all see together, NAME.seen, what those see who are marked, and NAME.wide, what those see with all who have not root's uid. Each line of a picture is of a known form, and each byte is printable ASCII. Of NAME.all and NAME.dot the
 nodes are the same by kind, mode, owner, group and size; so are the names in each directory, and the number of servers; a drawn port is one that its task has. In NAME.as.dot marked are exactly so many
-nodes of each kind, mode, owner, group and size as are seen there, and as wholly seen those whose bodies are. With the name of an SVG and of a file of texts behind it, each text stands in the SVG.
+nodes of each kind, mode, owner, group and size as are seen there, and as wholly seen those whose bodies are. NAME.can.dot has the same marks, but at nodes of which NAME.wide has
+more, and one cell more in its legend. With the name of an SVG and of a file of texts behind it, each text stands in the SVG.
 """
 import collections
 import glob
@@ -29,6 +30,7 @@ MARKS = {
     ', fillcolor="#ececec", color="#9a9a9a", fontcolor="#6a6a6a", style="filled,dashed"': "unseen",
     ', fillcolor=white, color="#c98a00", penwidth=2': "outside",
     ', fillcolor="#ffe08a", color="#c98a00", penwidth=2': "inside",
+    ', fillcolor="#d3e4f8", color="#0b5cad", penwidth=2': "helped",
 }
 SHAPES = {"-": "note", "d": "folder", "l": 'cds, margin="0.25,0.1"', "p": "cylinder", "c": "component"}
 NODE = (
@@ -40,7 +42,7 @@ SERVED = ' [style=dashed, penwidth=2, color="#1f4fa3", fontcolor="#1f4fa3", labe
 SHOWS = ' [style=dotted, penwidth=2, color="#1f6f43", fontcolor="#1f6f43", label=<shows>, constraint=false]'
 USE = r"(?: read)?(?: write)?(?: exec)?(?: append)?(?: at [0-9]+)?(?: shared)?"
 FORMS = {
-    "legend": rf"  label=<<table border=\"0\" cellspacing=\"6\"><tr><td>What <b>{LABEL}</b>:</td>(?:<td [^<>]*>(?:<font [^<>]*>)?[a-z, ]+(?:</font>)?</td>){{3}}</tr></table>>;",
+    "legend": rf"  label=<<table border=\"0\" cellspacing=\"6\"><tr><td>What <b>{LABEL}</b>:</td>(?:<td [^<>]*>(?:<font [^<>]*>)?[a-z, ]+(?:</font>)?</td>){{3,4}}</tr></table>>;",
     "node": rf"  (?:{BOX})?{NODE}(?: \}})?",
     "gone": rf"  (?:{BOX})?n({NAME}){re.escape(STUB)}<gone>\];(?: \}})?",
     "stub": rf"  n({NAME}){re.escape(STUB)}<<b>{LABEL}</b><br/>not seen>\];",
@@ -222,6 +224,26 @@ def check_marked(text, lines, plain):
     return sum(mark == "unseen" for _, mark in drawn), sum(mark == "outside" for _, mark in drawn), sum(mark == "inside" for _, mark in drawn)
 
 
+def check_helped(text, lines, marked):
+    """What is marked as what others could show is what the wider view shows more; all else is as without that mark."""
+    name, seen, owners = text + ".can.dot", told(text + ".wide"), owners_of(text)
+    pairs = list(zip(nodes_drawn(marked), nodes_drawn(lines)))
+    if [x[2] for x in lines["node"]] != [x[2] for x in marked["node"]] or any(one[0] != two[0] for one, two in pairs):
+        fail(name, "other nodes than without what others could show")
+    if any(two[1] not in (one[1], "helped") or (one[1], two[1]) == ("inside", "helped") for one, two in pairs):
+        fail(name, "another mark than without what others could show")
+    compare(name, "nodes of which attributes could be shown", counted(one[0] for one, two in pairs if "helped" == two[1] or one[1] != "unseen"), counted(node for node, _ in nodes_told(seen, owners)))
+    whole, least = counted(node for node, body in nodes_told(seen, owners) if body), counted(one[0] for one, two in pairs if one[1] == "inside" or (one[1], two[1]) == ("outside", "helped"))
+    if least - whole or whole - counted(one[0] for one, two in pairs if "helped" == two[1] or one[1] == "inside"):
+        fail(name, "what is in other nodes could be shown")
+    for form in ("gone", "stub", "server", "entry", "served", "shows", "task", "use", "control", "start"):
+        if [x[0] for x in lines[form]] != [x[0] for x in marked[form]]:
+            fail(name, f"other lines than without what others could show: {form}")
+    if [x[0].count("<td") for x in lines["legend"]] != [5] or [x[0].count("<td") for x in marked["legend"]] != [4]:
+        fail(name, "a legend of so many cells")
+    return sum(two[1] == "helped" for _, two in pairs)
+
+
 def check_svg(name, wanted):
     """Each of these texts is one that the picture shows, whole."""
     with open(wanted) as file:
@@ -241,7 +263,7 @@ def main():
         forms = collections.Counter()
         pictures = sorted(glob.glob(os.path.join(glob.escape(sys.argv[1]), "*.dot")))
         for name in pictures:
-            if name.endswith(".as.dot"):
+            if name.endswith((".as.dot", ".can.dot")):
                 continue
             text = name[: -len(".dot")]
             plain = read(name)
@@ -255,13 +277,19 @@ def main():
                 if os.path.exists(text + ".seen"):
                     marks.update(dict(zip(("unseen", "outside", "inside"), check_marked(text, marked, plain))))
                     agreed += 1
+            if os.path.exists(text + ".can.dot"):
+                helped = read(text + ".can.dot")
+                forms.update({form: len(found) for form, found in helped.items()})
+                if os.path.exists(text + ".wide"):
+                    marks["helped"] += check_helped(text, helped, marked)
+                    agreed += 1
         # no text is known in which no task sees a node that is drawn, or a port is the right to a start
         lacking = [form for form in FORMS if not forms[form] and form not in ("stub", "start")]
-        if not pictures or not agreed or lacking or not all(marks[mark] for mark in ("unseen", "outside", "inside")):
+        if not pictures or not agreed or lacking or not all(marks[mark] for mark in ("unseen", "outside", "inside", "helped")):
             fail("pictures", f"{len(pictures)} were read and {agreed} compared, without {lacking}, with the marks {dict(marks)}")
         print(
             f"{len(pictures)} pictures of {sum(forms.values())} lines are of {len(FORMS)} forms; {agreed} agree with what hurd see prints:"
-            f" {marks['inside']} nodes are wholly seen, of {marks['outside']} the attributes, and {marks['unseen']} not at all"
+            f" {marks['inside']} nodes are wholly seen, of {marks['outside']} the attributes, and {marks['unseen']} not at all; of {marks['helped']} others could show more"
         )
     for failure in failures[:20]:
         print(failure)

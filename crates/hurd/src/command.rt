@@ -167,12 +167,19 @@ fn draw<'a>(alloc: Global) -> Result<Command<'a>, AllocError> {
         .value_name("WHO")
         .action(ArgAction::Set)
         .help("Mark what WHO can see");
+    let helped = Arg::new(alloc, "can")
+        .long("can")
+        .value_name("WHO")
+        .action(ArgAction::Set)
+        .conflicts_with("as")?
+        .help("Mark what WHO can see, and what users other than root could show them");
     verb(
         alloc,
         "draw",
         "Print the tree at the end as a Graphviz graph",
     )?
     .arg(marked)?
+    .arg(helped)?
     .arg(most_output(alloc))?
     .arg(word(alloc, "FILE", FILE))
 }

@@ -101,7 +101,7 @@ fn text_of(alloc: Global, matches: &ArgMatches<'_>, id: &str) -> Result<String, 
 
 /// Those whose sight is marked in a picture, if any are named. Fails only if memory runs out.
 fn named_by(alloc: Global, matches: &ArgMatches<'_>) -> Result<Option<String>, AllocError> {
-    match matches.get_str("as") {
+    match matches.get_str("can").or(matches.get_str("as")) {
         Some(who) => Ok(Some(String::from_str(alloc, who)?)),
         None => Ok(None),
     }
@@ -222,6 +222,7 @@ fn request_of(alloc: Global, verb: &str, matches: &ArgMatches<'_>) -> Result<Ask
         },
         "draw" => Verb::Draw {
             who: named_by(alloc, matches)?,
+            can: matches.get_str("can").is_some(),
         },
         _ => Verb::Run,
     };

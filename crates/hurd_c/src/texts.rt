@@ -150,14 +150,14 @@ pub extern "C" fn hurd_draw(
     who: &[u8],
     out: &mut [u8],
 ) -> Said
-    ensures { OfSome who.now sort (λ s. drawing s (marked_in who.now)) text.now result out.old out.new }
+    ensures { OfSome who.now sort (λ s. drawing s false (marked_in who.now)) text.now result out.old out.new }
 {
     let Some(sort) = sort_at(sort) else {
         return no_sort();
     };
     match marked(alloc, who) {
         Ok(who) => {
-            let verb = Verb::Draw { who };
+            let verb = Verb::Draw { who, can: false };
             told(alloc, &Request { sort, verb }, text, out)
         }
         Err(fault) => ending(Err(fault), 0),

@@ -21,26 +21,26 @@ pub here : {X : Type 0} (xs : List X) (i : ℕ) (x : X) → slice_get xs i ≡ S
 here xs i x is = drop_more xs i x (slice_get_within xs i x is) ∙ ap (λ (y : _). y ∷ drop (i + 1) xs) (get_or_from_slice_get xs i x x is)
 
 -- what was added before some row, and what the rows from there on add, is all
-abbrev pub DrawnBefore : Titles → View → Option View → List (Name × Row) → ℕ → List ℕ → List ℕ → Type 0
-DrawnBefore t v theirs es i start text = text ++ rows_text t v theirs (named (drop i es)) ≡ start ++ rows_text t v theirs (named es)
+abbrev pub DrawnBefore : Titles → View → Option View → Option View → List (Name × Row) → ℕ → List ℕ → List ℕ → Type 0
+DrawnBefore t v theirs wide es i start text = text ++ rows_text t v theirs wide (named (drop i es)) ≡ start ++ rows_text t v theirs wide (named es)
 
 -- the next row was drawn
-pub drawn_next : (t : Titles) (v : View) (theirs : Option View) (es : List (Name × Row)) (i : ℕ) (o : Option Name) (start old new : List ℕ) → i < length es
-    → o ≡ option_map (λ (e : Name × Row). e.0) (slice_get es i) → new ≡ old ++ drawn_at t v theirs o → DrawnBefore t v theirs es i start old → DrawnBefore t v theirs es (i + 1) start new
-drawn_next t v theirs es i o start old new below is grown before = elim (slice_get_cases es i).1 [
+pub drawn_next : (t : Titles) (v : View) (theirs wide : Option View) (es : List (Name × Row)) (i : ℕ) (o : Option Name) (start old new : List ℕ) → i < length es
+    → o ≡ option_map (λ (e : Name × Row). e.0) (slice_get es i) → new ≡ old ++ drawn_at t v theirs wide o → DrawnBefore t v theirs wide es i start old → DrawnBefore t v theirs wide es (i + 1) start new
+drawn_next t v theirs wide es i o start old new below is grown before = elim (slice_get_cases es i).1 [
   | inl inside ↦ there inside.0 inside.2
   | inr past ↦ absurd (beyond i (length es) below past.0)
 ]
   where
-    there : (e : Name × Row) → slice_get es i ≡ Some e → DrawnBefore t v theirs es (i + 1) start new
+    there : (e : Name × Row) → slice_get es i ≡ Some e → DrawnBefore t v theirs wide es (i + 1) start new
     there e at =
-        ap (λ (s : List ℕ). s ++ rows_text t v theirs (named (drop (i + 1) es)))
-        (grown ∙ ap (λ (m : Option Name). old ++ drawn_at t v theirs m) (is ∙ ap (option_map (λ (e : Name × Row). e.0)) at))
-        ∙ (append_assoc old (drawn_at t v theirs (Some e.0)) (rows_text t v theirs (named (drop (i + 1) es)))
-        ∙ (ap (λ (fs : List (Name × Row)). old ++ rows_text t v theirs (named fs)) (sym (here es i e at)) ∙ before))
+        ap (λ (s : List ℕ). s ++ rows_text t v theirs wide (named (drop (i + 1) es)))
+        (grown ∙ ap (λ (m : Option Name). old ++ drawn_at t v theirs wide m) (is ∙ ap (option_map (λ (e : Name × Row). e.0)) at))
+        ∙ (append_assoc old (drawn_at t v theirs wide (Some e.0)) (rows_text t v theirs wide (named (drop (i + 1) es)))
+        ∙ (ap (λ (fs : List (Name × Row)). old ++ rows_text t v theirs wide (named fs)) (sym (here es i e at)) ∙ before))
 
 -- all rows were drawn
-pub drawn_all : (t : Titles) (v : View) (theirs : Option View) (es : List (Name × Row)) (i : ℕ) (start text : List ℕ) → length es ≤ i → DrawnBefore t v theirs es i start text
-    → text ≡ start ++ rows_text t v theirs (named es)
-drawn_all t v theirs es i start text past before =
-    sym (append-nil text) ∙ (ap (λ (fs : List (Name × Row)). text ++ rows_text t v theirs (named fs)) (sym (drop_all i es past)) ∙ before)
+pub drawn_all : (t : Titles) (v : View) (theirs wide : Option View) (es : List (Name × Row)) (i : ℕ) (start text : List ℕ) → length es ≤ i → DrawnBefore t v theirs wide es i start text
+    → text ≡ start ++ rows_text t v theirs wide (named es)
+drawn_all t v theirs wide es i start text past before =
+    sym (append-nil text) ∙ (ap (λ (fs : List (Name × Row)). text ++ rows_text t v theirs wide (named fs)) (sym (drop_all i es past)) ∙ before)

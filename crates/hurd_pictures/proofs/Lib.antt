@@ -5,6 +5,6 @@ pub mod DrawingLaws
 pub mod SearchLaws
 pub mod MarkLaws
 pub mod PlainLaws
-pub mod PictureLaws
 pub mod BoxLaws
+pub mod PictureLaws
 pub mod StubLaws

@@ -1,5 +1,5 @@
 -- What is looked for among the rows of a view, by an index.
-use Rattle.std.proofs.Common.{◌≡◌, ◌∙◌, inl, inr, refl, sym, ap, ℕ, ◌+◌, ◌<◌, Bool, List, if◌then◌else◌, drop, length, Some, None}
+use Rattle.std.proofs.Common.{◌≡◌, ◌∙◌, refl, sym, ap, ℕ, ◌+◌, Bool, List, if◌then◌else◌, drop, Some, None}
 use Rattle.std.specs.Prelude.{Option, slice_get}
 use Rattle.std.specs.Option.{option_map}
 use Rattle.hurd_creds.specs.declared.name.Name.{Name}
@@ -8,8 +8,7 @@ use Rattle.hurd_views.specs.declared.view.View.{View}
 use Rattle.hurd_views.specs.Views.{row_at}
 use Rattle.hurd_pictures.specs.Found.{first_sought, is_sought}
 use Rattle.hurd_pictures.specs.declared.names.Sought.{Sought}
-use Rattle.hurd_pictures.proofs.DrawingLaws.{beyond, here}
-use Rattle.std.proofs.lemmas.Option.{slice_get_cases}
+use Rattle.hurd_pictures.proofs.DrawingLaws.{here}
 
 -- it is under the name at an index, or further on
 pub sought_at : (v : View) (s : Sought) (es : List (Name × Row)) (i : ℕ) (n : Name) (t : Bool) → Some n ≡ option_map (λ (e : Name × Row). e.0) (slice_get es i)

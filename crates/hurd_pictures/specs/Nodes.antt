@@ -1,5 +1,5 @@
 -- A node in the box of its server, and the arrows to its entries.
-use Rattle.std.specs.Prelude.{ℕ, ◌/◌, ◌==◌, ◌++◌, Bool, true, false, List, [], ◌∷◌, Option, Some, None, if◌then◌else◌, codes, decimal, is_some, nat_lt}
+use Rattle.std.specs.Prelude.{ℕ, ◌/◌, ◌==◌, ◌&&◌, ◌||◌, ◌++◌, not, Bool, true, false, List, [], ◌∷◌, Option, Some, None, if◌then◌else◌, codes, decimal, is_some, nat_lt}
 use Rattle.hurd_creds.specs.declared.attrs.Attrs.{Attrs}
 use Rattle.hurd_creds.specs.declared.attrs.Kind.{Kind}
 use Rattle.hurd_creds.specs.declared.attrs.Kind.TheVariants.{File, Dir, Link, Fifo, Char}
@@ -17,16 +17,25 @@ use Rattle.hurd_pictures.specs.Found.{is_title, listed_in, plain_title, title_te
 use Rattle.hurd_pictures.specs.Labels.{arrow_text, node_name, numbers_text, owner_text, short_label, shown, words_text}
 use Rattle.hurd_pictures.specs.declared.names.Titles.{Titles}
 use Rattle.hurd_pictures.specs.declared.nodes.Mark.{Mark}
-use Rattle.hurd_pictures.specs.declared.nodes.Mark.TheVariants.{Plain, Unseen, Outside, Inside}
+use Rattle.hurd_pictures.specs.declared.nodes.Mark.TheVariants.{Plain, Unseen, Outside, Inside, Helped}
 
 -- how much of a thing is seen: what is in it, else its attributes, else nothing
 abbrev pub mark_in : Row → Mark
 mark_in r = if is_some r.body then Inside else if is_some r.attributes then Outside else Unseen
 
--- how much of a node is seen by those whose view this is; without a view nobody is marked
-abbrev pub mark_of : Option View → Name → Mark
-mark_of None n = Plain
-mark_of (Some v) n = mark_in (row_at v.rows n)
+-- whether a wider row shows more of a thing than another: what is in it, or its attributes
+abbrev pub shows_more : Row → Row → Bool
+shows_more wide r = (is_some wide.body && not (is_some r.body)) || (is_some wide.attributes && not (is_some r.attributes))
+
+-- how much of a node is seen by this row, or, by a wider view, that others could show more of it
+abbrev pub mark_with : Row → Option View → Name → Mark
+mark_with r None n = mark_in r
+mark_with r (Some wide) n = if shows_more (row_at wide.rows n) r then Helped else mark_in r
+
+-- the same by the view of those who are marked; without a view nobody is
+abbrev pub mark_of : Option View → Option View → Name → Mark
+mark_of None wide n = Plain
+mark_of (Some v) wide n = mark_with (row_at v.rows n) wide n
 
 -- the colours of a mark
 abbrev pub mark_style : Mark → List ℕ
@@ -34,6 +43,7 @@ mark_style Plain = []
 mark_style Unseen = codes ", fillcolor=\"#ececec\", color=\"#9a9a9a\", fontcolor=\"#6a6a6a\", style=\"filled,dashed\""
 mark_style Outside = codes ", fillcolor=white, color=\"#c98a00\", penwidth=2"
 mark_style Inside = codes ", fillcolor=\"#ffe08a\", color=\"#c98a00\", penwidth=2"
+mark_style Helped = codes ", fillcolor=\"#d3e4f8\", color=\"#0b5cad\", penwidth=2"
 
 -- the shape of a kind
 abbrev pub shape : Kind → List ℕ
@@ -126,6 +136,10 @@ node_text t v m n (Some r) x = box_text r.home ++ (node_name n ++ (look_text t v
 -- whether a node's attributes are seen
 abbrev pub is_seen : View → Name → Bool
 is_seen v n = is_some (row_at v.rows n).attributes
+
+-- whether it is seen what is in a node
+abbrev pub has_body : View → Name → Bool
+has_body v n = is_some (row_at v.rows n).body
 
 -- a node by its name, as one of which no attributes are seen
 unfoldable pub stub_text : View → Name → List ℕ

@@ -1,7 +1,8 @@
 //! A node in its server's box, and the arrows to its entries.
 ghost use Rattle.std.specs.Prelude.{◌≡◌, ◌++◌, option_copied, OnOk};
+ghost use Rattle.hurd_views.specs.Views.{row_at};
 ghost use Rattle.hurd_pictures.specs.Labels.{arrow_text};
-ghost use Rattle.hurd_pictures.specs.Nodes.{attrs_text, box_end, box_text, bytes_line, bytes_word, content_text, ends_text, entries_text, entry_text, font_text, inside_text, is_seen, italics_text, label_text, listing_text, look_text, mark_in, mark_of, mark_style, name_at, node_text, passive_text, server_box, shape, short_mode, size_text, stub_text, unseen_text};
+ghost use Rattle.hurd_pictures.specs.Nodes.{attrs_text, box_end, box_text, bytes_line, bytes_word, content_text, ends_text, entries_text, entry_text, font_text, has_body, inside_text, is_seen, italics_text, label_text, listing_text, look_text, mark_in, mark_of, mark_style, mark_with, name_at, node_text, passive_text, server_box, shape, short_mode, shows_more, size_text, stub_text, unseen_text};
 
 use crate::bytes::{push_short, push_shown, push_text};
 use crate::names::{
@@ -26,6 +27,8 @@ pub(crate) enum Mark {
     Outside,
     /// What is in it.
     Inside,
+    /// Others could show more of it.
+    Helped,
 }
 
 /// How much of what has this row is seen.
@@ -42,15 +45,42 @@ fn mark_in(row: &Row) -> Mark
 }
 
 /// How much of a node is seen by those whose view this is.
-pub(crate) fn mark_of(theirs: Option<&View>, name: Name) -> Mark
-    ensures { result ≡ mark_of (option_copied theirs.entry) name }
+fn mark_at(view: &View, name: Name) -> Mark
+    ensures { result ≡ mark_in (row_at view.now.rows name) }
 {
-    let Some(view) = theirs else {
-        return Mark::Plain;
-    };
     match view.rows.get(name) {
         Some(row) => mark_in(row),
         None => Mark::Unseen,
+    }
+}
+
+/// Whether a wider view shows more of a node than another: what is in it, or its attributes.
+fn shows_more(wide: &View, view: &View, name: Name) -> bool
+    ensures { result ≡ shows_more (row_at wide.now.rows name) (row_at view.now.rows name) }
+{
+    has_body(wide, name) && !has_body(view, name) || is_seen(wide, name) && !is_seen(view, name)
+}
+
+/// How much of a node is seen by those whose view this is, or, by a wider view, that others could show more of it.
+fn mark_with(view: &View, wide: Option<&View>, name: Name) -> Mark
+    ensures { result ≡ mark_with (row_at view.now.rows name) (option_copied wide.entry) name }
+{
+    let Some(wide) = wide else {
+        return mark_at(view, name);
+    };
+    if shows_more(wide, view, name) {
+        return Mark::Helped;
+    }
+    mark_at(view, name)
+}
+
+/// The same by the view of those who are marked, if any are.
+pub(crate) fn mark_of(theirs: Option<&View>, wide: Option<&View>, name: Name) -> Mark
+    ensures { result ≡ mark_of (option_copied theirs.entry) (option_copied wide.entry) name }
+{
+    match theirs {
+        Some(view) => mark_with(view, wide, name),
+        None => Mark::Plain,
     }
 }
 
@@ -65,6 +95,7 @@ fn mark_style(mark: Mark) -> &'static [u8]
         }
         Mark::Outside => b", fillcolor=white, color=\"#c98a00\", penwidth=2",
         Mark::Inside => b", fillcolor=\"#ffe08a\", color=\"#c98a00\", penwidth=2",
+        Mark::Helped => b", fillcolor=\"#d3e4f8\", color=\"#0b5cad\", penwidth=2",
     }
 }
 
@@ -315,6 +346,16 @@ fn is_seen(view: &View, node: NodeName) -> bool
 {
     match view.rows.get(node) {
         Some(row) => row.attributes.is_some(),
+        None => false,
+    }
+}
+
+/// Whether it is seen what is in a node.
+fn has_body(view: &View, node: NodeName) -> bool
+    ensures { result ≡ has_body view.now node }
+{
+    match view.rows.get(node) {
+        Some(row) => row.body.is_some(),
         None => false,
     }
 }

@@ -17,12 +17,12 @@ limited_of Script Run = scripts_limited
 limited_of Script (Learn who most) = scripts_limited
 limited_of Script (See who most) = scripts_limited
 limited_of Script (Can who every how) = scripts_limited
-limited_of Script (Draw who) = scripts_limited
+limited_of Script (Draw who can) = scripts_limited
 limited_of Calls Run = lists_limited
 limited_of Calls (Learn who most) = lists_limited
 limited_of Calls (See who most) = lists_limited
 limited_of Calls (Can who every how) = lists_limited
-limited_of Calls (Draw who) = lists_limited
+limited_of Calls (Draw who can) = lists_limited
 
 pub limited : (request : Request) → HasLimit (asked request).bad (asked request).complaint
 limited request = limited_of request.sort request.verb
@@ -33,4 +33,4 @@ complains sort Run = refl
 complains sort (Learn who most) = refl
 complains sort (See who most) = refl
 complains sort (Can who every how) = refl
-complains sort (Draw who) = refl
+complains sort (Draw who can) = refl

@@ -31,7 +31,7 @@ asked_of sort Run = running sort
 asked_of sort (Learn who most) = learning sort most (string_bytes who)
 asked_of sort (See who most) = seeing sort most (string_bytes who)
 asked_of sort (Can who every how) = could sort every how (string_bytes who)
-asked_of sort (Draw who) = drawing sort (option_map string_bytes who)
+asked_of sort (Draw who can) = drawing sort can (option_map string_bytes who)
 
 abbrev pub asked : Request → Program
 asked request = asked_of (sort_of request.sort) request.verb

@@ -35,7 +35,7 @@ fn done_of<T: Telling, W: Write>(
         Verb::Can { who, every, how } => {
             could_text::<T, W>(alloc, who.as_str(), *every, *how, text, output)
         }
-        Verb::Draw { who } => draw_text::<T, W>(alloc, who, text, output),
+        Verb::Draw { who, can } => draw_text::<T, W>(alloc, who, *can, text, output),
     }
 }
 
@@ -113,8 +113,12 @@ pub(crate) fn stranger_line(alloc: Global, request: &Request) -> Result<Vec<u8>,
         Verb::Learn { who, .. } | Verb::See { who, .. } | Verb::Can { who, .. } => {
             named_line(alloc, stranger(request.sort), who.as_str())
         }
-        Verb::Draw { who: Some(who) } => named_line(alloc, stranger(request.sort), who.as_str()),
-        Verb::Draw { who: None } => Ok(Vec::new(alloc)),
+        Verb::Draw { who: Some(who), .. } => named_line(
+            alloc,
+            stranger(request.sort),
+            who.as_str(),
+        ),
+        Verb::Draw { who: None, .. } => Ok(Vec::new(alloc)),
     }
 }
 

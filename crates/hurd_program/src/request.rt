@@ -21,8 +21,8 @@ pub enum Verb {
     See { who: String, most: Option<usize> },
     /// What could be shown some at the end, and with whose help: bytes, entries and nodes, or every part; and how, if that is wanted.
     Can { who: String, every: bool, how: bool },
-    /// A picture of the world at the end; it is marked what some see, if any are named.
-    Draw { who: Option<String> },
+    /// A picture of the world at the end. It is marked what some see, if any are named; with `can`, also what users other than root could show them.
+    Draw { who: Option<String>, can: bool },
 }
 
 /// What is asked of a text.

@@ -13,4 +13,5 @@ pub mod SeenLaws
 pub mod LimitLaws
 pub mod OwnerLaws
 pub mod PictureLaws
+pub mod AideLaws
 pub mod OnePicture

@@ -13,40 +13,66 @@ use Rattle.hurd_terminal.specs.Runs.{Program}
 use Rattle.hurd_views.specs.Views.{Views}
 use Rattle.hurd_views.specs.declared.view.View.{View}
 use Rattle.hurd_words.specs.Escapes.{escaped}
+use Rattle.hurd_teaching.specs.Aides.{aides_if}
 use Rattle.hurd_teaching.specs.Owners.{all_tasks, owners_of}
 
--- those whose sight is marked, and what is written of them, as `alice sees`
+-- those whose sight is marked, what is written of them, as `alice sees`, and the tasks of the wider view, if one is wanted
 pub record Marked : Type 0 where
   pub tasks : List TaskId
   pub called : List ℕ
+  pub wide : Option (List TaskId)
 
--- what those see of a world who are marked, if any are
-abbrev pub SeenBy : Option Marked → World → Option View → Type 0
-SeenBy None w seen = seen ≡ None
-SeenBy (Some marked) w seen = (theirs : View) × (seen ≡ Some theirs) × Views marked.tasks w theirs
+-- those who learn are marked; the wider view, if it is wanted, is of them and of all without root's uid
+abbrev pub marked_by : Bool → Learners → World → Marked
+marked_by can learners w = record {
+  tasks = learners.tasks.items;
+  called = learners.sees.items;
+  wide = aides_if can learners.tasks.items w.tasks;
+}
 
--- what is written of them
+-- those who are marked, if any are
+abbrev pub marked_tasks : Option Marked → Option (List TaskId)
+marked_tasks None = None
+marked_tasks (Some marked) = Some marked.tasks
+
+-- the tasks of the wider view, if there is one
+abbrev pub wide_tasks : Option Marked → Option (List TaskId)
+wide_tasks None = None
+wide_tasks (Some marked) = marked.wide
+
+-- what is written of those who are marked
 abbrev pub called_of : Option Marked → List ℕ
 called_of None = []
 called_of (Some marked) = marked.called
 
--- a text is the picture of a world whose tasks have these names: of all that its tasks see together, with what those see who are marked
-pub record IsDrawn (names : List (List ℕ)) (marked : Option Marked) (w : World) (text : List ℕ) : Type 0 where
+-- what these tasks see of a world together, if there are any
+abbrev pub SeenBy : Option (List TaskId) → World → Option View → Type 0
+SeenBy None w seen = seen ≡ None
+SeenBy (Some tasks) w seen = (view : View) × (seen ≡ Some view) × Views tasks w view
+
+-- a text is the picture of all that a world's tasks see together, by these names, with what others see, and a wider view
+pub record IsPicture (names : List (List ℕ)) (who : List ℕ) (seen wide : Option View) (w : World) (text : List ℕ) : Type 0 where
   pub titles : Titles
   pub named : titles.tasks.items ≡ names
   pub owned : titles.owners.items ≡ owners_of names w.tasks
   pub view : View
   pub all : Views (all_tasks w.tasks) w view
-  pub seen : Option View
-  pub theirs : SeenBy marked w seen
-  pub is : text ≡ picture titles (all_tasks w.tasks) view (called_of marked) seen
+  pub is : text ≡ picture titles (all_tasks w.tasks) view who seen wide
 
--- the picture of a text at its end, in which it is marked what those that WHO names see
-abbrev pub DrawnFor : Sort → Option (List ℕ) → List ℕ → List ℕ → Type 0
-DrawnFor sort None text printed = IsDrawn (sort.names text) None (last_world sort text) printed
-DrawnFor sort (Some word) text printed =
+-- the same with what those see who are marked, and with the wider view that is wanted
+pub record IsDrawn (names : List (List ℕ)) (marked : Option Marked) (w : World) (text : List ℕ) : Type 0 where
+  pub seen : Option View
+  pub theirs : SeenBy (marked_tasks marked) w seen
+  pub wide : Option View
+  pub helped : SeenBy (wide_tasks marked) w wide
+  pub is : IsPicture names (called_of marked) seen wide w text
+
+-- the picture of a text at its end, marked with what WHO see, and with what others could show them, if that is wanted
+abbrev pub DrawnFor : Sort → Bool → Option (List ℕ) → List ℕ → List ℕ → Type 0
+DrawnFor sort can None text printed = IsDrawn (sort.names text) None (last_world sort text) printed
+DrawnFor sort can (Some word) text printed =
     (learners : Learners) × AreThese sort word text learners
-    × IsDrawn (sort.names text) (Some (record { tasks = learners.tasks.items; called = learners.sees.items })) (last_world sort text) printed
+    × IsDrawn (sort.names text) (Some (marked_by can learners (last_world sort text))) (last_world sort text) printed
 
 -- what is said where one of these isn't in a text
 abbrev pub stranger_of : Sort → Option (List ℕ) → List ℕ
@@ -59,13 +85,13 @@ are_known sort None text = true
 are_known sort (Some word) text = is_some (tasks_named (sort.finds text) word)
 
 -- the program that prints it
-abbrev pub drawing : Sort → Option (List ℕ) → Program
-drawing sort who = record {
+abbrev pub drawing : Sort → Bool → Option (List ℕ) → Program
+drawing sort can who = record {
   complaint = sort.complaint;
   stranger = stranger_of sort who;
   bad = sort.bad;
   boot = sort.boot;
   known = are_known sort who;
-  IsAll = DrawnFor sort who;
-  IsPart = λ text printed. (all : List ℕ) × DrawnFor sort who text all × IsFront printed all;
+  IsAll = λ text printed. DrawnFor sort can who text printed;
+  IsPart = λ text printed. (all : List ℕ) × DrawnFor sort can who text all × IsFront printed all;
 }

@@ -8,4 +8,5 @@ pub mod Shown
 pub mod Programs
 pub mod Reading
 pub mod Owners
+pub mod Aides
 pub mod Drawings

@@ -1,5 +1,5 @@
 //! What it means that such outputs can be read back, and that what is printed is one text.
-ghost use Rattle.std.specs.Prelude.{ℕ, List, Option};
+ghost use Rattle.std.specs.Prelude.{ℕ, Bool, List, Option};
 ghost use Rattle.hurd_dialogue.specs.Sorts.{Sort};
 ghost use Rattle.hurd_teaching.specs.Drawings.{drawing};
 ghost use Rattle.hurd_teaching.specs.Lessons.{LessonsAreSentences};
@@ -34,5 +34,5 @@ pub fn shortened_are_sentences()
 
 /// A law: of a text one picture is drawn.
 pub fn one_picture_is_drawn()
-    ensures { (sort : Sort) (who : Option (List ℕ)) → PrintsOneText (drawing sort who) }
+    ensures { (sort : Sort) (can : Bool) (who : Option (List ℕ)) → PrintsOneText (drawing sort can who) }
 {}

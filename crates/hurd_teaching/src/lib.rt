@@ -6,9 +6,10 @@
 //! keeps what some tasks saw, and says what they learned since.
 //!
 //! `draw_text` begins a text, goes to its end, and prints a picture of all that its tasks see there together, for Graphviz. If some are named, it is marked what
-//! these see of it.
+//! these see of it; and, if that is wanted, what users other than root could show them.
 #![tactic(auto)]
 
+mod aides;
 mod drawing;
 mod laws;
 mod learners;
@@ -34,5 +35,5 @@ pub use naming::{Naming, learners_of, tasks_of};
 pub use owners::{all_tasks, copied_names};
 pub use seeing::{look, reached, seen, view_of};
 pub use sights::see_text;
-pub use telling::{look_before, paragraph, said};
+pub use telling::{look_before, paragraph, said, said_if_moved};
 pub use watch::Watch;

@@ -65,7 +65,7 @@ pub fn said<S: Server>(
 }
 
 /// The same; and nothing where it is known that what these see is as it was.
-pub(crate) fn said_if_moved<S: Server>(
+pub fn said_if_moved<S: Server>(
     alloc: Global,
     world: &World<S>,
     learners: &Learners,

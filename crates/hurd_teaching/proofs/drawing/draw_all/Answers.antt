@@ -1,4 +1,4 @@
-use Rattle.std.proofs.Common.{None, refl}
+use Rattle.std.proofs.Common.{None, false, refl}
 use Rattle.std.proofs.lemmas.Result.{err_from_is_err_and}
 use Rattle.hurd_terminal.proofs.RunLaws.{no_memory}
 use Rattle.hurd_dialogue.proofs.Printed.{not_begun_adds}
@@ -9,12 +9,12 @@ use Rattle.hurd_teaching.proofs.drawing.draw_all.Goals as goal
 pub returns-in_err-telling-clause-adds : goal.returns-in_err-telling-clause-adds
 returns-in_err-telling-clause-adds g c =
     let p = err_from_is_err_and c.from_residual.result c.from_residual.ensures.1 in
-    rw (p.1, p.2) (not_begun_adds (drawing g.T.Telling.sort None) g.T.Telling.sort _ c.args.text.now c.in_err-telling.field-0.0 refl refl c.in_err-telling.ensures.err)
+    rw (p.1, p.2) (not_begun_adds (drawing g.T.Telling.sort false None) g.T.Telling.sort _ c.args.text.now c.in_err-telling.field-0.0 refl refl c.in_err-telling.ensures.err)
 
 pub returns-in_err-drawn-clause-adds : goal.returns-in_err-drawn-clause-adds
 returns-in_err-drawn-clause-adds g c =
     let p = err_from_is_err_and c.from_residual-in_err-drawn.result c.from_residual-in_err-drawn.ensures.1 in
-    rw (p.1, p.2) (no_memory (drawing g.T.Telling.sort None) _ c.args.text.now)
+    rw (p.1, p.2) (no_memory (drawing g.T.Telling.sort false None) _ c.args.text.now)
 
 pub returns-clause-adds : goal.returns-clause-adds
 returns-clause-adds g c =

@@ -1,20 +1,15 @@
-use Rattle.std.proofs.Common.{Some, refl}
-use Rattle.hurd_pictures.specs.declared.names.Titles.{Titles}
+use Rattle.std.proofs.Common.{None, Some, false, refl}
+use Rattle.hurd_machine.specs.World.{World}
 use Rattle.hurd_world.specs.Held.{world_of}
-use Rattle.hurd_teaching.specs.Drawings.{Marked}
+use Rattle.hurd_teaching.specs.Drawings.{marked_by}
 use Rattle.hurd_teaching.proofs.PictureLaws.{is_drawn, said_so}
 use Rattle.hurd_teaching.proofs.drawing.marked_picture.Goals as goal
 
 pub returns : goal.returns
 returns g c =
-    let titles : Titles = record { tasks = c.args.names; owners = c.in_ok-owners.owners } in
-    let owned = rw c.as_slice.ensures.value at c.in_ok-owners.ensures in
-    let rows = rw (c.ports.ensures, c.core.ensures) at c.seats-seats.ensures.all in
-    let views = rw c.as_slice-2.ensures.value at c.in_ok-view.ensures in
-    let theirs = rw c.as_slice-3.ensures.value at c.in_ok-theirs.ensures in
-    let marked : Marked = record { tasks = c.args.learners.now.tasks.items; called = c.args.learners.now.sees.items } in
-    let drawn = rw (c.as_slice-4.ensures.value, c.deref.ensures, c.as_slice-5.ensures.value, c.deref-2.ensures) at c.picture.ensures in
-    said_so _ _ c.picture.result
-    (λ text is. is_drawn c.args.names.items (Some marked) (world_of g.S.Server.meaning c.args.world.now) titles c.in_ok-view.view.value (Some c.in_ok-theirs.theirs.value) c.seats-seats.result.now c.in_ok-tasks.tasks.items text refl owned rows c.in_ok-tasks.ensures views
-    (c.in_ok-theirs.theirs.value, refl, theirs) is)
+    let w : World = world_of g.S.Server.meaning c.args.world.now in
+    let theirs = rw c.as_slice.ensures.value at c.in_ok-theirs.ensures in
+    let drawn = rw (c.as_slice-2.ensures.value, c.deref.ensures) at c.picture_of.ensures in
+    said_so _ _ c.picture_of.result
+    (λ text is. is_drawn c.args.names.items (Some (marked_by false c.args.learners.now w)) w (Some c.in_ok-theirs.theirs.value) None text (c.in_ok-theirs.theirs.value, refl, theirs) refl is)
     drawn

@@ -1,16 +1,8 @@
-use Rattle.std.proofs.Common.{None, Some, refl}
-use Rattle.hurd_pictures.specs.declared.names.Titles.{Titles}
+use Rattle.std.proofs.Common.{None, refl}
 use Rattle.hurd_world.specs.Held.{world_of}
 use Rattle.hurd_teaching.proofs.PictureLaws.{is_drawn, said_so}
 use Rattle.hurd_teaching.proofs.drawing.plain_picture.Goals as goal
 
 pub returns : goal.returns
 returns g c =
-    let titles : Titles = record { tasks = c.args.names; owners = c.in_ok-owners.owners } in
-    let owned = rw c.as_slice.ensures.value at c.in_ok-owners.ensures in
-    let rows = rw (c.ports.ensures, c.core.ensures) at c.seats-seats.ensures.all in
-    let views = rw c.as_slice-2.ensures.value at c.in_ok-view.ensures in
-    let drawn = rw (c.as_slice-3.ensures.value, c.deref.ensures) at c.picture.ensures in
-    said_so _ _ c.picture.result
-    (λ text is. is_drawn c.args.names.items None (world_of g.S.Server.meaning c.args.world.now) titles c.in_ok-view.view.value None c.seats-seats.result.now c.in_ok-tasks.tasks.items text refl owned rows c.in_ok-tasks.ensures views refl is)
-    drawn
+    said_so _ _ c.picture_of.result (λ text is. is_drawn c.args.names.items None (world_of g.S.Server.meaning c.args.world.now) None None text refl refl is) c.picture_of.ensures
