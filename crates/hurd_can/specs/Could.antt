@@ -1,12 +1,12 @@
 -- What is printed of who could help to see what.
 use Rattle.std.specs.Prelude.{ℕ, Bool, true, false, not, ◌&&◌, ◌==◌, if◌then◌else◌, List, [], ◌∷◌, ◌++◌, Option, Some, None, codes, decimal, slice_get}
-use Rattle.hurd_creds.specs.Access.{is_root}
 use Rattle.hurd_creds.specs.declared.name.TaskId.{TaskId}
 use Rattle.hurd_ports.specs.Tables.{Task}
 use Rattle.hurd_places.specs.Places.{place_of}
 use Rattle.hurd_sight.specs.Reach.{among}
 use Rattle.hurd_sight.specs.declared.parts.SeenPart.{SeenPart}
 use Rattle.hurd_sight.specs.declared.parts.SeenPart.TheVariants as seen
+use Rattle.hurd_teaching.specs.Aides.{is_root_task}
 use Rattle.hurd_views.specs.declared.view.View.{View}
 use Rattle.hurd_words.specs.Spelling.{spelled}
 use Rattle.hurd_can.specs.Help.{Help}
@@ -20,14 +20,6 @@ name_or d None = codes "task " ++ decimal d.0
 
 abbrev pub task_name : List (List ℕ) → TaskId → List ℕ
 task_name names d = name_or d (slice_get names d.0)
-
--- whether a task has the uid of root
-abbrev pub root_in : Option Task → Bool
-root_in (Some x) = is_root x.ids
-root_in None = false
-
-abbrev pub is_root_task : List Task → TaskId → Bool
-is_root_task tasks d = root_in (slice_get tasks d.0)
 
 -- with one set of helpers more
 abbrev pub or_more : List ℕ → List ℕ → List ℕ

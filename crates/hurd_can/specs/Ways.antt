@@ -7,7 +7,8 @@ use Rattle.hurd_sight.specs.declared.parts.SeenPart.{SeenPart}
 use Rattle.hurd_sight.specs.declared.parts.SeenPart.TheVariants as seen
 use Rattle.hurd_views.specs.declared.view.View.{View}
 use Rattle.hurd_witnesses.specs.Trials.{part_at, scripted}
-use Rattle.hurd_can.specs.Could.{is_root_task, is_wanted, task_name}
+use Rattle.hurd_teaching.specs.Aides.{is_root_task}
+use Rattle.hurd_can.specs.Could.{is_wanted, task_name}
 use Rattle.hurd_can.specs.Listed.{body_at, has_entries}
 use Rattle.hurd_can.specs.declared.helped.Pair.{Pair}
 use Rattle.hurd_can.specs.declared.ways.HelpSet.{HelpSet}

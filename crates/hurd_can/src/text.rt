@@ -3,7 +3,8 @@ ghost use Rattle.std.specs.Prelude.{◌≡◌, ◌&&◌, ◌++◌, [], ◌∷◌
 ghost use Rattle.hurd_ports.specs.Seats.{seat_task};
 ghost use Rattle.hurd_places.specs.Places.{place_of};
 ghost use Rattle.hurd_sight.specs.Reach.{among};
-ghost use Rattle.hurd_can.specs.Could.{before_more, before_text, could_line, count_text, help_text, helpers_text, is_root_task, is_wanted, line_head, line_tail, or_more, part_place, part_word, parts_word, task_name, with_ones, with_twos};
+ghost use Rattle.hurd_teaching.specs.Aides.{is_root_task};
+ghost use Rattle.hurd_can.specs.Could.{before_more, before_text, could_line, count_text, help_text, helpers_text, is_wanted, line_head, line_tail, or_more, part_place, part_word, parts_word, task_name, with_ones, with_twos};
 
 use crate::helped::{Helped, Pair};
 use crate::listing::{body_at, has_entries};
@@ -11,6 +12,7 @@ use hurd_creds::{Bytes, Name, TaskId};
 use hurd_places::{place, server_path};
 use hurd_ports::TaskSeat;
 use hurd_sight::SeenPart;
+use hurd_teaching::is_root_task;
 use hurd_views::View;
 use hurd_words::spelling::push_spelled;
 use itoa::Buffer;
@@ -58,16 +60,6 @@ pub(crate) fn push_task(text: &mut Vec<u8>, names: &[Bytes], task: TaskId) -> Re
             text.extend_from_slice(b"task ")?;
             push_decimal(text, task.0 as usize)
         }
-    }
-}
-
-/// Whether a task has the uid of root.
-pub(crate) fn is_root_task(seats: &[TaskSeat], task: TaskId) -> bool
-    ensures { result ≡ is_root_task (map seat_task seats.now) task }
-{
-    match seats.get(task.0 as usize) {
-        Some(seat) => seat.ids.is_root(),
-        None => false,
     }
 }
 

@@ -1,15 +1,17 @@
 //! Commands that may show WHO a part: helpers, or WHO with them, open the way to it.
 ghost use Rattle.std.specs.Prelude.{◌≡◌, ◌++◌, [], ◌∷◌, codes, drop, map, IfOk, OnOk};
 ghost use Rattle.hurd_ports.specs.Seats.{seat_task};
-ghost use Rattle.hurd_can.specs.Could.{is_root_task, is_wanted, task_name};
+ghost use Rattle.hurd_teaching.specs.Aides.{is_root_task};
+ghost use Rattle.hurd_can.specs.Could.{is_wanted, task_name};
 ghost use Rattle.hurd_can.specs.Ways.{called, each_does, helper_names, line_by, look_at, names_on, opened, opens, opens_along, opens_at, path_of, set_name, sets_of, sets_of_one, sets_of_two, way_by_all, way_by_helpers};
 
 use crate::helped::{Helped, Pair};
 use crate::listing::{body_at, has_entries};
-use crate::text::{is_root_task, is_wanted, push_task};
+use crate::text::{is_wanted, push_task};
 use hurd_creds::{Bytes, TaskId};
 use hurd_ports::TaskSeat;
 use hurd_sight::SeenPart;
+use hurd_teaching::is_root_task;
 use hurd_views::View;
 use hurd_witnesses::{part_at, scripted};
 use hurd_words::words::pieces;

@@ -14,13 +14,13 @@ ghost use Rattle.hurd_teaching.specs.Watched.{SeenOf};
 ghost use Rattle.hurd_sitting.specs.Replies.{Replies};
 ghost use Rattle.hurd_sitting.specs.Watching.{SeenBy};
 
-use crate::making::{learned, looked};
+use crate::making::looked;
 use hurd_calls::brought;
 use hurd_creds::Bytes;
 use hurd_kinds::ServerBox;
 use hurd_lists::{ListedCall, with_server};
 use hurd_machine::Reply;
-use hurd_teaching::{Learners, Watch};
+use hurd_teaching::{Learners, Watch, said_if_moved};
 use hurd_world::World;
 use std::alloc::{AllocError, Global};
 
@@ -96,7 +96,7 @@ fn replied_before(
     looked(world, alloc, learners, watch, quiet)?;
     let reply = replied(world, alloc, listed)?;
     let unmoved = !quiet && watch.misses(world.noted());
-    let told = learned(alloc, world, learners, watch, quiet, unmoved)?;
+    let told = said_if_moved(alloc, world, learners, watch, quiet, unmoved)?;
     Ok(Replied { reply, told })
 }
 

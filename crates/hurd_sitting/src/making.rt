@@ -7,7 +7,6 @@ ghost use Rattle.hurd_machine.specs.Sound.{Sound};
 ghost use Rattle.hurd_world.specs.Held.{state_of, world_of};
 ghost use Rattle.hurd_world.specs.Noting.{NotesWhatIsTouched};
 ghost use Rattle.hurd_calls.specs.Making.{after_call, answer_to};
-ghost use Rattle.hurd_teaching.specs.Telling.{SaysOf};
 ghost use Rattle.hurd_teaching.specs.Watched.{SeenOf, Sees};
 ghost use Rattle.hurd_sitting.specs.Sittings.{Adds, SomeMade, Tells, behind, listed};
 ghost use Rattle.hurd_sitting.specs.Watching.{SeenBy};
@@ -16,7 +15,7 @@ use hurd_calls::{answer, brought};
 use hurd_creds::Bytes;
 use hurd_kinds::ServerBox;
 use hurd_lists::ListedCall;
-use hurd_teaching::{Learners, Watch, look_before, paragraph, said};
+use hurd_teaching::{Learners, Watch, look_before, paragraph, said_if_moved};
 use hurd_words::answers::Answer;
 use hurd_world::World;
 use std::alloc::{AllocError, Global};
@@ -36,24 +35,6 @@ fn made(
 {
     let server = brought(alloc, &listed.server)?;
     answer(world, alloc, listed, server)
-}
-
-/// What these learn by a call; nothing if it is known that what they see is as it was. Fails only if memory runs out.
-pub(crate) fn learned(
-    alloc: Global,
-    world: &World<ServerBox>,
-    learners: &Learners,
-    watch: &mut Watch,
-    quiet: bool,
-    unmoved: bool,
-) -> Result<Bytes, AllocError>
-    requires { unmoved ≡ true → (quiet ≡ false) × Sees learners.now.tasks.items (world_of box_meaning world.now) watch.old.seen }
-    ensures { IfOk result (λ text. SaysOf learners.now.tasks.items learners.now.who.items quiet (world_of box_meaning world.now) watch.old.seen watch.new.seen text) }
-{
-    if unmoved {
-        return Ok(Bytes::new(Vec::new(alloc)));
-    }
-    said(alloc, world, learners, watch, quiet)
 }
 
 /// Looks at what these see before a call by another, unless that was done, and notes from then on what is touched. Fails only if memory runs out.
@@ -97,7 +78,7 @@ fn paragraph_of(
     looked(world, alloc, learners, watch, quiet)?;
     let answer = made(world, alloc, listed)?;
     let unmoved = !quiet && watch.misses(world.noted());
-    let said = learned(alloc, world, learners, watch, quiet, unmoved)?;
+    let said = said_if_moved(alloc, world, learners, watch, quiet, unmoved)?;
     let shown = Bytes::new(Vec::new(alloc));
     paragraph(alloc, &answer, &said, &shown)
 }

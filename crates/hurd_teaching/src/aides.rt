@@ -11,7 +11,7 @@ use hurd_ports::TaskSeat;
 use std::alloc::{AllocError, Global};
 
 /// Whether a task has the uid of root.
-fn is_root_task(seats: &[TaskSeat], task: TaskId) -> bool
+pub fn is_root_task(seats: &[TaskSeat], task: TaskId) -> bool
     ensures { result ≡ is_root_task (map seat_task seats.now) task }
 {
     match seats.get(task.0 as usize) {

@@ -24,6 +24,7 @@ mod steps;
 mod telling;
 mod watch;
 
+pub use aides::is_root_task;
 pub use drawing::draw_text;
 pub use laws::{
     lessons_are_sentences, one_picture_is_drawn, one_sight_is_printed, one_text_is_printed,

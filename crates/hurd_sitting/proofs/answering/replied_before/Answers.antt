@@ -15,8 +15,8 @@ use Rattle.hurd_sitting.proofs.answering.replied_before.Goals.{then-not-quiet, e
 use Rattle.hurd_sitting.proofs.answering.replied_before.Goals as goal
 
 -- if nothing that was touched was seen, what was seen is what these see now
-pub learned-requires : goal.learned-requires
-learned-requires c =
+pub said_if_moved-requires : goal.said_if_moved-requires
+said_if_moved-requires c =
     elim c.if-not-quiet.branch [
       | then-not-quiet b ↦ λ is.
           let missed : misses (listed c.replied.new.world.noted) c.looked.new.watch.seen ≡ true = rw b.noted.ensures at (sym b.misses-unmoved.ensures ∙ (sym b.unmoved-is ∙ is)) in (
@@ -33,11 +33,11 @@ returns-clause-replies c =
     let made = c.in_ok-reply.ensures.world ∙ ap (after_call call) c.looked.ensures.world in
     record {
       reply = c.in_ok-reply.ensures.reply ∙ ap (λ (w : World). reply_of w call.task.0 call.call) c.looked.ensures.world;
-      told = learned_by c.args.learners.now call _ _ c.have-quiet.result c.looked.new.watch.seen c.learned.new.watch.seen c.in_ok-told.told c.have-quiet.ensures
+      told = learned_by c.args.learners.now call _ _ c.have-quiet.result c.looked.new.watch.seen c.said_if_moved.new.watch.seen c.in_ok-told.told c.have-quiet.ensures
           c.in_ok-looked.ensures.sees made c.in_ok-told.ensures;
       leaves = made;
     }
 
 pub returns-clause-seen : goal.returns-clause-seen
 returns-clause-seen c =
-    kept_here c.args.learners.now.tasks.items (speech c.args.learners.now) _ c.have-quiet.result c.looked.new.watch.seen c.learned.new.watch.seen c.in_ok-told.told c.in_ok-told.ensures
+    kept_here c.args.learners.now.tasks.items (speech c.args.learners.now) _ c.have-quiet.result c.looked.new.watch.seen c.said_if_moved.new.watch.seen c.in_ok-told.told c.in_ok-told.ensures

@@ -14,8 +14,8 @@ use Rattle.hurd_sitting.proofs.making.paragraph_of.Goals.{then-not-quiet, else-n
 use Rattle.hurd_sitting.proofs.making.paragraph_of.Goals as goal
 
 -- if nothing that was touched was seen, what was seen is what these see now
-pub learned-requires : goal.learned-requires
-learned-requires c =
+pub said_if_moved-requires : goal.said_if_moved-requires
+said_if_moved-requires c =
     elim c.if-not-quiet.branch [
       | then-not-quiet b ↦ λ is.
           let missed : misses (listed c.made.new.world.noted) c.looked.new.watch.seen ≡ true = rw b.noted.ensures at (sym b.misses-unmoved.ensures ∙ (sym b.unmoved-is ∙ is)) in (
@@ -32,11 +32,11 @@ returns-clause-tells c =
     let made = c.in_ok-answer.ensures.world ∙ ap (after_call (listed_by box_meaning c.args.listed)) c.looked.ensures.world in
     let says = rw (told, c.new-shown.ensures, c.new.ensures.items) at c.paragraph.ensures in
     IfOk-weaker c.paragraph.result _ _
-    (λ text is. paragraph_tells c.args.learners.now (listed_by box_meaning c.args.listed) _ _ c.have-quiet.result c.looked.new.watch.seen c.learned.new.watch.seen c.in_ok-said.said text.items c.have-quiet.ensures
+    (λ text is. paragraph_tells c.args.learners.now (listed_by box_meaning c.args.listed) _ _ c.have-quiet.result c.looked.new.watch.seen c.said_if_moved.new.watch.seen c.in_ok-said.said text.items c.have-quiet.ensures
     c.in_ok-looked.ensures.sees made c.in_ok-said.ensures is)
     says
 
 pub returns-clause-seen : goal.returns-clause-seen
 returns-clause-seen c =
-    IfOk-weaker c.paragraph.result _ _ (λ text is. kept_here c.args.learners.now.tasks.items (speech c.args.learners.now) _ c.have-quiet.result c.looked.new.watch.seen c.learned.new.watch.seen c.in_ok-said.said c.in_ok-said.ensures)
+    IfOk-weaker c.paragraph.result _ _ (λ text is. kept_here c.args.learners.now.tasks.items (speech c.args.learners.now) _ c.have-quiet.result c.looked.new.watch.seen c.said_if_moved.new.watch.seen c.in_ok-said.said c.in_ok-said.ensures)
     c.paragraph.ensures
