@@ -18,14 +18,17 @@ import ctypes
 import enum
 import os
 import threading
-from typing import Any, List, NoReturn, Tuple, Union
+from typing import Any, Dict, List, NamedTuple, NoReturn, Tuple, Union
 
-__all__ = ["BadText", "HurdError", "NoMemory", "NoSort", "NoWorld", "Refused", "Sort", "Unknown", "World", "can", "draw", "learn", "run", "see"]
+__all__ = [
+    "BadText", "Call", "HurdError", "Kind", "NoCall", "NoKind", "NoMemory", "NoWorld", "Refused", "Reply", "Unknown", "Which", "World", "can", "draw", "learn", "line", "run",
+    "see",
+]
 
 Text = Union[str, bytes]
 
 
-class Sort(enum.IntEnum):
+class Kind(enum.IntEnum):
     """What a text is: a script of users' commands, or a list of tasks' calls."""
 
     SCRIPT = 0
@@ -82,11 +85,137 @@ class Unknown(HurdError):
         super().__init__(reason or f"not all of these are there: {who}")
 
 
-class NoSort(HurdError):
-    """There is no sort of texts of this number."""
+class NoKind(HurdError):
+    """There is no kind of texts of this number."""
 
     def __init__(self) -> None:
-        super().__init__("there is no such sort of texts")
+        super().__init__("there is no such kind of texts")
+
+
+class NoCall(HurdError):
+    """Numbers and bytes that make no call: it doesn't exist, has bits that no flag has or bytes of another form, or its line would be too long."""
+
+    def __init__(self) -> None:
+        super().__init__("these numbers and bytes make no call")
+
+
+class Call(enum.IntEnum):
+    """The calls, by number. Their names are those of `fs.defs`, `fsys.defs` and `io.defs`."""
+
+    PORT_DEALLOCATE = 1
+    PORT_SEND = 2
+    PORT_RECEIVE = 3
+    AUTH_MAKEAUTH = 4
+    IO_READ = 5
+    IO_WRITE = 6
+    IO_SEEK = 7
+    IO_STAT = 8
+    IO_READABLE = 9
+    IO_GET_OPENMODES = 10
+    IO_SET_ALL_OPENMODES = 11
+    IO_DUPLICATE = 12
+    IO_REAUTHENTICATE = 13
+    IO_RESTRICT_AUTH = 14
+    IO_IDENTITY = 15
+    FILE_CHMOD = 16
+    FILE_CHOWN = 17
+    FILE_SET_SIZE = 18
+    FILE_CHECK_ACCESS = 19
+    FILE_SET_TRANSLATOR = 20
+    FILE_GET_TRANSLATOR = 21
+    FILE_GET_TRANSLATOR_CNTL = 22
+    FILE_GETCONTROL = 23
+    FSYS_STARTUP = 24
+    START_FAILED = 25
+    FSYS_GETROOT = 26
+    FSYS_GOAWAY = 27
+    FSYS_GET_OPTIONS = 28
+    FSYS_SET_OPTIONS = 29
+    DIR_LOOKUP = 30
+    DIR_READDIR = 31
+    DIR_MKDIR = 32
+    DIR_MKFILE = 33
+    DIR_RMDIR = 34
+    DIR_UNLINK = 35
+    DIR_LINK = 36
+    DIR_RENAME = 37
+
+
+class Which(enum.IntEnum):
+    """Which reply a call has."""
+
+    DONE = 1
+    FOUND = 2
+    RETRY = 3
+    START = 4
+    PORT = 5
+    DATA = 6
+    COUNT = 7
+    NAMES = 8
+    WORDS = 9
+    STAT = 10
+    MODES = 11
+    SAME = 12
+    REFUSED = 13
+    BACK = 14
+
+
+class Reply(NamedTuple):
+    """The reply to a call: which it is, its numbers, and its bytes. Numbers that it has no use for are 0. hurd.h says what each means."""
+
+    which: Which
+    error: int
+    retry: int
+    kind: int
+    mode: int
+    owner: int
+    group: int
+    links: int
+    translators: int
+    number: int
+    size: int
+    data: bytes
+
+    @property
+    def words(self) -> List[bytes]:
+        """The names or words of the reply. Raises ValueError if one has a zero byte in it, since then nobody knows where it ends."""
+        words = self.data.split(b"\0")[:-1]
+        if len(words) != self.number:
+            raise ValueError("a name or word has a zero byte in it")
+        return words
+
+
+class _Request(ctypes.Structure):
+    """`hurd_request` of hurd.h."""
+
+    _fields_ = [
+        ("task", ctypes.c_uint32),
+        ("call", ctypes.c_uint32),
+        ("port", ctypes.c_uint64),
+        ("other", ctypes.c_uint64),
+        ("amount", ctypes.c_uint64),
+        ("offset", ctypes.c_int64),
+        ("flags", ctypes.c_uint32),
+        ("mode", ctypes.c_uint32),
+        ("owner", ctypes.c_uint32),
+        ("group", ctypes.c_uint32),
+        ("to", ctypes.c_uint32),
+        ("active", ctypes.c_uint32),
+        ("goaway", ctypes.c_uint32),
+        ("brings", ctypes.c_uint32),
+    ]
+
+
+class _Figures(ctypes.Structure):
+    """`hurd_figures` of hurd.h."""
+
+    _fields_ = [*((name, ctypes.c_uint32) for name in Reply._fields[:9]), ("number", ctypes.c_uint64), ("size", ctypes.c_uint64)]
+
+
+class _Reply(ctypes.Structure):
+    """`hurd_reply` of hurd.h."""
+
+    _fields_ = [("status", ctypes.c_uint32), ("reply", _Figures), ("length", ctypes.c_size_t), ("told", ctypes.c_size_t)]
 
 
 class _World(ctypes.Structure):
@@ -110,12 +239,13 @@ class _Status(enum.IntEnum):
     MEMORY = 3
     NONE = 4
     UNKNOWN = 5
-    NO_SORT = 6
+    NO_KIND = 6
+    NO_CALL = 7
 
 
 _HELD = ctypes.POINTER(_World)
 _BYTES = [ctypes.c_char_p, ctypes.c_size_t]
-_SORT = [ctypes.c_uint32]
+_KIND = [ctypes.c_uint32]
 _FLAG = [ctypes.c_uint32]
 # The functions of hurd.h: what each returns, and what it takes.
 _FUNCTIONS = {
@@ -123,12 +253,14 @@ _FUNCTIONS = {
     "hurd_make": (_Said, [_HELD, *_BYTES, *_BYTES]),
     "hurd_told": (ctypes.c_size_t, [_HELD, ctypes.c_size_t, *_BYTES]),
     "hurd_watch": (_Said, [_HELD, *_BYTES]),
+    "hurd_call": (_Reply, [_HELD, ctypes.POINTER(_Request), *_BYTES, *_BYTES]),
+    "hurd_line": (_Said, [ctypes.POINTER(_Request), *_BYTES, *_BYTES]),
     "hurd_end": (None, [_HELD]),
-    "hurd_run": (_Said, [*_SORT, *_BYTES, *_BYTES]),
-    "hurd_learn": (_Said, [*_SORT, *_BYTES, *_BYTES, *_BYTES]),
-    "hurd_see": (_Said, [*_SORT, *_BYTES, *_BYTES, *_BYTES]),
-    "hurd_can": (_Said, [*_SORT, *_BYTES, *_BYTES, *_FLAG, *_BYTES]),
-    "hurd_draw": (_Said, [*_SORT, *_BYTES, *_BYTES, *_BYTES]),
+    "hurd_run": (_Said, [*_KIND, *_BYTES, *_BYTES]),
+    "hurd_learn": (_Said, [*_KIND, *_BYTES, *_BYTES, *_BYTES]),
+    "hurd_see": (_Said, [*_KIND, *_BYTES, *_BYTES, *_BYTES]),
+    "hurd_can": (_Said, [*_KIND, *_BYTES, *_BYTES, *_FLAG, *_BYTES]),
+    "hurd_draw": (_Said, [*_KIND, *_BYTES, *_BYTES, *_BYTES]),
 }
 
 
@@ -183,9 +315,43 @@ def _fail(said: _Said, told: str, who: bytes) -> NoReturn:
         raise NoWorld
     if said.status == _Status.UNKNOWN:
         raise Unknown(_text_of(who), _reason_of(told))
-    if said.status == _Status.NO_SORT:
-        raise NoSort
+    if said.status == _Status.NO_KIND:
+        raise NoKind
+    if said.status == _Status.NO_CALL:
+        raise NoCall
     raise HurdError(f"the library gives the status {said.status}, which this module doesn't know")
+
+
+def _request(task: int, call: int, numbers: Dict[str, int]) -> _Request:
+    """The numbers of a call as the library takes them. Raises TypeError for a name that none has, and ValueError for a number that has no room."""
+    sizes = dict(_Request._fields_)
+    for name, number in {"task": task, "call": call, **numbers}.items():
+        if name not in sizes:
+            raise TypeError(f"a call has no number {name!r}")
+        if sizes[name](number).value != number:
+            raise ValueError(f"{name} can't be {number}")
+    return _Request(task=task, call=call, **numbers)
+
+
+def _reply_of(figures: _Figures, data: bytes) -> Reply:
+    """A reply, by its numbers and bytes."""
+    return Reply(Which(figures.which), *(getattr(figures, name) for name in Reply._fields[1:-1]), data)
+
+
+def line(task: int, call: int, data: bytes = b"", **numbers: int) -> str:
+    """The line of a list that makes the same call as `World.call` with these numbers and bytes.
+
+    Raises NoCall, also if the line would be longer than a list may be; NoMemory; TypeError or ValueError if a number is none of its size.
+    """
+    request, room, length = ctypes.byref(_request(task, call, numbers)), 0, _WORLD_ROOM
+    while length > room:
+        room = length
+        out = ctypes.create_string_buffer(room)
+        said = _library.hurd_line(request, data, len(data), out, room)
+        length = said.length
+    if said.status:
+        _fail(said, "")
+    return _text_of(ctypes.string_at(out, length))
 
 
 class World:
@@ -210,7 +376,7 @@ class World:
         self._told = ""
         # What `fork` does again: the first text, and each method with its argument; and whether that is all.
         self._first = _bytes_of(text)
-        self._steps: List[Tuple[str, bytes]] = []
+        self._steps: List[Tuple[str, Any]] = []
         self._is_known = True
         self._tell(_library.hurd_begin, self._first)
 
@@ -235,9 +401,35 @@ class World:
             self._fail(said, "", names)
         self._steps.append(("learn", names))
 
+    def call(self, task: int, call: int, data: bytes = b"", room: int = _WORLD_ROOM, **numbers: int) -> Reply:
+        r"""Makes one call as numbers and bytes, and returns its reply. `told` is what those learn from it whom `learn` names: nothing of a call of their own.
+
+        `numbers` are those of `hurd_request` in hurd.h that the call needs, and `data` are its bytes. If the reply has more bytes than `room`, only so many are returned.
+
+            world.call(0, hurd.Call.DIR_LOOKUP, b"tmp", port=1, flags=1)
+            world.call(0, hurd.Call.IO_READ, port=4, amount=100, offset=-1)
+
+        Raises NoCall, and then nothing changed; NoMemory; NoWorld; TypeError or ValueError if a number is none of its size.
+        """
+        request = _request(task, call, numbers)
+        out = self._room if room <= _WORLD_ROOM else ctypes.create_string_buffer(room)
+        said = _library.hurd_call(self._held(), ctypes.byref(request), data, len(data), out, room)
+        if said.status:
+            self._fail(_Said(status=said.status), "")
+        # the bytes are taken before anything else may write to the same room
+        reply = _reply_of(said.reply, ctypes.string_at(out, min(said.length, room)))
+        self._told = _text_of(self._rest(0, said.told)) if said.told else ""
+        self._steps.append(("_again", (task, call, data, numbers)))
+        return reply
+
+    def _again(self, given: Tuple[int, int, bytes, Dict[str, int]]) -> None:
+        """Makes a call as it was made in another world."""
+        task, call, data, numbers = given
+        self.call(task, call, data, **numbers)
+
     @property
     def told(self) -> str:
-        """What the last text printed. Raises NoWorld if the world is closed."""
+        """What the last text printed, or what was learned from the last call. Raises NoWorld if the world is closed."""
         self._held()
         if not self._world.at:
             raise NoWorld
@@ -282,16 +474,16 @@ class World:
         said = function(self._held(), text, len(text), self._room, _WORLD_ROOM)
         told = ctypes.string_at(self._room, min(said.length, _WORLD_ROOM))
         if said.length > _WORLD_ROOM:
-            told += self._rest(said.length - _WORLD_ROOM)
+            told += self._rest(_WORLD_ROOM, said.length - _WORLD_ROOM)
         self._told = _text_of(told)
         if said.status:
             self._fail(said, self._told)
         return self._told
 
-    def _rest(self, length: int) -> bytes:
-        """So many bytes of what was printed, after those that there was room for."""
+    def _rest(self, start: int, length: int) -> bytes:
+        """So many bytes of what was printed, from a place on."""
         out = ctypes.create_string_buffer(length)
-        return ctypes.string_at(out, _library.hurd_told(self._held(), _WORLD_ROOM, out, length))
+        return ctypes.string_at(out, _library.hurd_told(self._held(), start, out, length))
 
     def _fail(self, said: _Said, told: str, who: bytes = b"") -> NoReturn:
         """Raises the error of a status. If memory ran out, nobody knows what was done."""
@@ -299,17 +491,17 @@ class World:
         _fail(said, told, who)
 
 
-def _printed(function: Any, sort: int, text: Text, *who: Text, flags: Tuple[bool, ...] = ()) -> str:
+def _printed(function: Any, kind: int, text: Text, *who: Text, flags: Tuple[bool, ...] = ()) -> str:
     """What a function of the library prints of a whole text. Its flags follow the texts. If there was too little room, it asks again with more."""
-    if not 0 <= sort < 1 << 32:
-        raise NoSort
+    if not 0 <= kind < 1 << 32:
+        raise NoKind
     given = [_bytes_of(one) for one in (text, *who)]
     words = [word for one in given for word in (one, len(one))]
     room, length = 0, _TEXT_ROOM
     while length > room:
         room = length
         out = ctypes.create_string_buffer(room)
-        said = function(sort, *words, *flags, out, room)
+        said = function(kind, *words, *flags, out, room)
         length = said.length
     told = _text_of(ctypes.string_at(out, length))
     if said.status:
@@ -317,36 +509,36 @@ def _printed(function: Any, sort: int, text: Text, *who: Text, flags: Tuple[bool
     return told
 
 
-def run(text: Text, sort: int = Sort.SCRIPT) -> str:
+def run(text: Text, kind: int = Kind.SCRIPT) -> str:
     """The transcript of a text, run in a world of its own, as `hurd run` prints it.
 
-    Raises BadText, Refused, NoMemory, NoSort; TypeError if it is not a text.
+    Raises BadText, Refused, NoMemory, NoKind; TypeError if it is not a text.
     """
-    return _printed(_library.hurd_run, sort, text)
+    return _printed(_library.hurd_run, kind, text)
 
 
-def learn(text: Text, who: Text, sort: int = Sort.SCRIPT) -> str:
+def learn(text: Text, who: Text, kind: int = Kind.SCRIPT) -> str:
     """The transcript of a text and, after each command by others, what `who` learn from it, as `hurd learn` prints it.
 
     `who` has users of a script, or numbers of a list's tasks, with commas between them.
-    Raises BadText, Unknown, Refused, NoMemory, NoSort; TypeError if it is not a text.
+    Raises BadText, Unknown, Refused, NoMemory, NoKind; TypeError if it is not a text.
     """
-    return _printed(_library.hurd_learn, sort, text, who)
+    return _printed(_library.hurd_learn, kind, text, who)
 
 
-def see(text: Text, who: Text, sort: int = Sort.SCRIPT) -> str:
+def see(text: Text, who: Text, kind: int = Kind.SCRIPT) -> str:
     """Everything that `who` can see at the end of a text, as `hurd see` prints it. Raises what `learn` raises."""
-    return _printed(_library.hurd_see, sort, text, who)
+    return _printed(_library.hurd_see, kind, text, who)
 
 
-def can(text: Text, who: Text, sort: int = Sort.SCRIPT, *, every: bool = False) -> str:
+def can(text: Text, who: Text, kind: int = Kind.SCRIPT, *, every: bool = False) -> str:
     """What `who` could be shown at the end of a text, and by whose help, as `hurd can` prints it.
 
     It lists bytes, entries and nodes; with `every` it lists every part, as `hurd can --all` does. Raises what `learn` raises.
     """
-    return _printed(_library.hurd_can, sort, text, who, flags=(bool(every),))
+    return _printed(_library.hurd_can, kind, text, who, flags=(bool(every),))
 
 
-def draw(text: Text, who: Text = "", sort: int = Sort.SCRIPT) -> str:
+def draw(text: Text, who: Text = "", kind: int = Kind.SCRIPT) -> str:
     """A picture of the end of a text in the language of Graphviz, as `hurd draw` prints it. It marks what `who` can see. Raises what `learn` raises."""
-    return _printed(_library.hurd_draw, sort, text, who)
+    return _printed(_library.hurd_draw, kind, text, who)

@@ -13,7 +13,7 @@ from pathlib import Path
 from typing import Any, Callable, Iterator, List, NamedTuple, Optional, Tuple, Type
 
 import hurd
-from hurd import Sort, World
+from hurd import Kind, World
 
 ROOT = Path(__file__).resolve().parents[2]
 LISTS = sorted([*ROOT.glob("examples/*.calls"), *ROOT.glob("tests/calls/*.calls")])
@@ -91,7 +91,7 @@ def test_lists_a_call_at_a_time() -> None:
 
 def test_lists_in_a_world_of_their_own() -> None:
     for path in LISTS:
-        assert hurd.run(path.read_bytes(), Sort.CALLS) == told_of(path.with_suffix(".transcript")), path
+        assert hurd.run(path.read_bytes(), Kind.CALLS) == told_of(path.with_suffix(".transcript")), path
 
 
 def test_scripts() -> None:
@@ -105,7 +105,7 @@ def test_what_alice_learns() -> None:
         if script.exists():
             assert hurd.learn(script.read_bytes(), "alice") == told_of(path), path
         else:
-            assert hurd.learn(calls.read_bytes(), "1", Sort.CALLS) == told_of(path), path
+            assert hurd.learn(calls.read_bytes(), "1", Kind.CALLS) == told_of(path), path
 
 
 def test_texts_are_told_from_errors() -> None:
@@ -151,7 +151,7 @@ def test_see() -> None:
         "  alice sees: /: d000755 1 0 0 0, served by / (server), entries f, program /hurd/tmpfs, root /, runs as 0",
         "  alice sees: /f: -000644 1 0 0 1, served by / (server), bytes x",
     ]
-    assert hurd.see(TASKS, "1", Sort.CALLS).endswith("  task 1 sees: tasks: 2\n")
+    assert hurd.see(TASKS, "1", Kind.CALLS).endswith("  task 1 sees: tasks: 2\n")
 
 
 def test_what_alice_could_be_shown() -> None:
@@ -167,11 +167,11 @@ def test_can() -> None:
     lines = hurd.can(script, "alice", every=True).splitlines()
     assert lines[0] == bytes_line and len(lines) > 2
     assert lines[-1] == f"alice could be shown {len(lines) - 1} parts{last}"
-    assert hurd.can(TASKS + "0 dir_mkdir 1 =d 700", "1", sort=Sort.CALLS).startswith("  task 1 could see: /d: entries: with task 0\ntask 1 could be shown 1 part; ")
+    assert hurd.can(TASKS + "0 dir_mkdir 1 =d 700", "1", kind=Kind.CALLS).startswith("  task 1 could see: /d: entries: with task 0\ntask 1 could be shown 1 part; ")
 
 
 def test_draw() -> None:
-    for picture in (hurd.draw(SCRIPT), hurd.draw(FILE, sort=Sort.CALLS)):
+    for picture in (hurd.draw(SCRIPT), hurd.draw(FILE, kind=Kind.CALLS)):
         assert picture.startswith("digraph hurd {\n") and picture.endswith("\n}\n")
         assert "<b>motd</b>" in picture and "<b>alice sees</b>:" not in picture
     assert "What <b>alice sees</b>:" in hurd.draw(SCRIPT, "alice")
@@ -186,7 +186,7 @@ def test_lists_that_are_bad() -> None:
             World(text).close()
             continue
         assert raises(hurd.BadText, lambda: World(text)).line == line, text
-        fault = raises(hurd.BadText, lambda: hurd.run(text, Sort.CALLS))
+        fault = raises(hurd.BadText, lambda: hurd.run(text, Kind.CALLS))
         assert fault.line == line and reason in fault.reason, (text, fault.reason)
 
 
@@ -227,10 +227,10 @@ def test_long_texts() -> None:
     with World(longest) as world:
         assert world.told == ""
         assert world.make("#" * 1048576) == ""
-        for does in (lambda: world.make("#" * 1048577), lambda: hurd.run(longest + "#", Sort.CALLS), lambda: hurd.run("#" * 1048577)):
+        for does in (lambda: world.make("#" * 1048577), lambda: hurd.run(longest + "#", Kind.CALLS), lambda: hurd.run("#" * 1048577)):
             assert raises(hurd.BadText, does).line == 0
     raises(hurd.BadText, lambda: World(longest + "#"))
-    assert hurd.run("#" * 1048576) == hurd.run(longest, Sort.CALLS) == ""
+    assert hurd.run("#" * 1048576) == hurd.run(longest, Kind.CALLS) == ""
 
 
 def test_much_is_told() -> None:
@@ -240,7 +240,7 @@ def test_much_is_told() -> None:
     with World(FILE) as world:
         first = world.told
         assert world.make(f"{call}\n" * count) == told == world.told
-    assert hurd.run(f"{FILE}\n" + f"{call}\n" * count, Sort.CALLS) == first + told
+    assert hurd.run(f"{FILE}\n" + f"{call}\n" * count, Kind.CALLS) == first + told
 
 
 def test_bytes() -> None:
@@ -268,16 +268,16 @@ def test_nobody_knows_them() -> None:
         for does in (hurd.learn, hurd.see, hurd.can, hurd.draw):
             fault = raises(hurd.Unknown, lambda: does(SCRIPT, who))
             assert fault.who == who and fault.reason == f"no such user: {who}"
-    assert raises(hurd.Unknown, lambda: hurd.see(TASKS, "99", Sort.CALLS)).reason == "no such task: 99"
+    assert raises(hurd.Unknown, lambda: hurd.see(TASKS, "99", Kind.CALLS)).reason == "no such task: 99"
     with World(TASKS) as world:
         for who in ("2", "4294967295", "alice", "1,"):
             assert raises(hurd.Unknown, lambda: world.learn(who)).who == who
 
 
-def test_sorts() -> None:
-    for sort in (2, 4294967295, 4294967296, -1):
-        raises(hurd.NoSort, lambda: hurd.run("", sort))
-        raises(hurd.NoSort, lambda: hurd.draw("", sort=sort))
+def test_kinds() -> None:
+    for kind in (2, 4294967295, 4294967296, -1):
+        raises(hurd.NoKind, lambda: hurd.run("", kind))
+        raises(hurd.NoKind, lambda: hurd.draw("", kind=kind))
 
 
 def test_other_types() -> None:
@@ -362,7 +362,7 @@ def test_no_room() -> None:
         assert out.raw[count : count + 2] == (b"##" if count < 10 else out.raw[10:12])
         ctypes.memset(out, ord("#"), 99)
     for function, words in ((library.hurd_run, ()), (library.hurd_draw, (b"", 0))):
-        said = function(Sort.CALLS, text, len(text), *words, out, 0)
+        said = function(Kind.CALLS, text, len(text), *words, out, 0)
         assert said.status == 0 and said.length > 0 and out.raw[:2] == b"##"
     library.hurd_end(at)
 
@@ -386,7 +386,7 @@ def test_a_world_begun_twice() -> None:
 
 def test_each_status_has_its_exception() -> None:
     """Those too that no text brings about here. A world to which memory was refused goes on, but has no forks."""
-    names = {1: hurd.BadText, 2: hurd.Refused, 3: hurd.NoMemory, 4: hurd.NoWorld, 5: hurd.Unknown, 6: hurd.NoSort, 7: hurd.HurdError}
+    names = {1: hurd.BadText, 2: hurd.Refused, 3: hurd.NoMemory, 4: hurd.NoWorld, 5: hurd.Unknown, 6: hurd.NoKind, 7: hurd.HurdError}
     for status, fault in names.items():
         raised = raises(fault, lambda: hurd._fail(hurd._Said(status, 12, 3, 0), "0 io_stat 1\n", b"bob"))
         assert isinstance(raised, hurd.HurdError) and str(raised)

@@ -35,11 +35,11 @@ extern "C" {
     fn hurd_told(world: *mut Held, from: usize, out: *mut u8, room: usize) -> usize;
     fn hurd_watch(world: *mut Held, who: *const u8, size: usize) -> Said;
     fn hurd_end(world: *mut Held);
-    fn hurd_run(sort: u32, text: *const u8, size: usize, out: *mut u8, room: usize) -> Said;
-    fn hurd_learn(sort: u32, text: *const u8, size: usize, who: *const u8, who_size: usize, out: *mut u8, room: usize) -> Said;
-    fn hurd_see(sort: u32, text: *const u8, size: usize, who: *const u8, who_size: usize, out: *mut u8, room: usize) -> Said;
-    fn hurd_can(sort: u32, text: *const u8, size: usize, who: *const u8, who_size: usize, every: u32, out: *mut u8, room: usize) -> Said;
-    fn hurd_draw(sort: u32, text: *const u8, size: usize, who: *const u8, who_size: usize, out: *mut u8, room: usize) -> Said;
+    fn hurd_run(kind: u32, text: *const u8, size: usize, out: *mut u8, room: usize) -> Said;
+    fn hurd_learn(kind: u32, text: *const u8, size: usize, who: *const u8, who_size: usize, out: *mut u8, room: usize) -> Said;
+    fn hurd_see(kind: u32, text: *const u8, size: usize, who: *const u8, who_size: usize, out: *mut u8, room: usize) -> Said;
+    fn hurd_can(kind: u32, text: *const u8, size: usize, who: *const u8, who_size: usize, every: u32, out: *mut u8, room: usize) -> Said;
+    fn hurd_draw(kind: u32, text: *const u8, size: usize, who: *const u8, who_size: usize, out: *mut u8, room: usize) -> Said;
 }
 
 /// What there is room for at first, of a world and of a text. A longer one costs a second call.
@@ -48,7 +48,7 @@ const TEXT_ROOM: usize = 65536;
 
 /// What a text is: a script of users' commands, or a list of tasks' calls.
 #[derive(Clone, Copy, Debug, PartialEq, Eq)]
-pub enum Sort {
+pub enum Kind {
     Script = 0,
     Calls = 1,
 }
@@ -164,36 +164,36 @@ fn printed(ask: impl Fn(&mut [u8]) -> Said) -> Result<Vec<u8>, Error> {
 }
 
 /// The same, for a function that takes names.
-fn printed_for(function: Print, sort: Sort, text: &[u8], who: &[u8]) -> Result<Vec<u8>, Error> {
+fn printed_for(function: Print, kind: Kind, text: &[u8], who: &[u8]) -> Result<Vec<u8>, Error> {
     // SAFETY: all bytes are those of slices, and the room is one that nothing else has.
-    printed(|out| unsafe { function(sort as u32, text.as_ptr(), text.len(), who.as_ptr(), who.len(), out.as_mut_ptr(), out.len()) })
+    printed(|out| unsafe { function(kind as u32, text.as_ptr(), text.len(), who.as_ptr(), who.len(), out.as_mut_ptr(), out.len()) })
 }
 
 /// The transcript of a text, run in a world of its own, as `hurd run` prints it.
-pub fn run(sort: Sort, text: &[u8]) -> Result<Vec<u8>, Error> {
+pub fn run(kind: Kind, text: &[u8]) -> Result<Vec<u8>, Error> {
     // SAFETY: the same.
-    printed(|out| unsafe { hurd_run(sort as u32, text.as_ptr(), text.len(), out.as_mut_ptr(), out.len()) })
+    printed(|out| unsafe { hurd_run(kind as u32, text.as_ptr(), text.len(), out.as_mut_ptr(), out.len()) })
 }
 
 /// The transcript of a text and, after each command or call by others, what `who` learn from it, as `hurd learn` prints it. `who` has names of users, or numbers of tasks.
-pub fn learn(sort: Sort, text: &[u8], who: &[u8]) -> Result<Vec<u8>, Error> {
-    printed_for(hurd_learn, sort, text, who)
+pub fn learn(kind: Kind, text: &[u8], who: &[u8]) -> Result<Vec<u8>, Error> {
+    printed_for(hurd_learn, kind, text, who)
 }
 
 /// Everything that `who` can see at the end of a text, as `hurd see` prints it.
-pub fn see(sort: Sort, text: &[u8], who: &[u8]) -> Result<Vec<u8>, Error> {
-    printed_for(hurd_see, sort, text, who)
+pub fn see(kind: Kind, text: &[u8], who: &[u8]) -> Result<Vec<u8>, Error> {
+    printed_for(hurd_see, kind, text, who)
 }
 
 /// What `who` could be shown at the end of a text, and by whose help, as `hurd can` prints it. It lists bytes, entries and nodes; with `every` it lists every part.
-pub fn can(sort: Sort, text: &[u8], who: &[u8], every: bool) -> Result<Vec<u8>, Error> {
+pub fn can(kind: Kind, text: &[u8], who: &[u8], every: bool) -> Result<Vec<u8>, Error> {
     // SAFETY: the same.
-    printed(|out| unsafe { hurd_can(sort as u32, text.as_ptr(), text.len(), who.as_ptr(), who.len(), u32::from(every), out.as_mut_ptr(), out.len()) })
+    printed(|out| unsafe { hurd_can(kind as u32, text.as_ptr(), text.len(), who.as_ptr(), who.len(), u32::from(every), out.as_mut_ptr(), out.len()) })
 }
 
 /// A picture of the end of a text in the language of Graphviz, as `hurd draw` prints it. It marks what `who` can see; `who` may be empty.
-pub fn draw(sort: Sort, text: &[u8], who: &[u8]) -> Result<Vec<u8>, Error> {
-    printed_for(hurd_draw, sort, text, who)
+pub fn draw(kind: Kind, text: &[u8], who: &[u8]) -> Result<Vec<u8>, Error> {
+    printed_for(hurd_draw, kind, text, who)
 }
 
 /// A first program: root writes a notice, alice reads it and may not write it, and learns of a directory. hurd.txt has what it prints.
@@ -207,13 +207,13 @@ fn main() -> Result<(), Box<dyn error::Error>> {
     out.write_all(&world.make(b"0 dir_mkdir 1 =d 700")?)?;
 
     let script = b"user alice - -\nroot put /f x\n";
-    out.write_all(&run(Sort::Script, script)?)?;
-    out.write_all(&learn(Sort::Script, script, b"alice")?)?;
-    out.write_all(&see(Sort::Calls, b"task - -", b"0")?)?;
-    out.write_all(&can(Sort::Script, b"user alice - -\nroot put /f x\nroot chmod 600 /f\n", b"alice", false)?)?;
-    writeln!(out, "a picture: {} bytes", draw(Sort::Script, b"", b"")?.len())?;
+    out.write_all(&run(Kind::Script, script)?)?;
+    out.write_all(&learn(Kind::Script, script, b"alice")?)?;
+    out.write_all(&see(Kind::Calls, b"task - -", b"0")?)?;
+    out.write_all(&can(Kind::Script, b"user alice - -\nroot put /f x\nroot chmod 600 /f\n", b"alice", false)?)?;
+    writeln!(out, "a picture: {} bytes", draw(Kind::Script, b"", b"")?.len())?;
 
-    let refused = [world.make(b"nonsense"), world.make(b"task 0 0"), run(Sort::Script, b"root frob /"), learn(Sort::Script, script, b"bob")];
+    let refused = [world.make(b"nonsense"), world.make(b"task 0 0"), run(Kind::Script, b"root frob /"), learn(Kind::Script, script, b"bob")];
     for error in refused.into_iter().filter_map(Result::err) {
         writeln!(out, "refused: {error}")?;
     }

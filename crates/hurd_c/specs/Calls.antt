@@ -14,19 +14,19 @@ use Rattle.hurd_c.specs.Ends.{over, said_of}
 use Rattle.hurd_c.specs.declared.calls.Answered.{Answered}
 use Rattle.hurd_c.specs.declared.said.Said.{Said}
 
--- what is said of a call that was made
-abbrev pub answered : Reply → Answered
-answered reply = record { status = 0; figures = figures_of reply; length = length (reply_bytes reply) }
+-- what is said of a call that was made, of which so many bytes are told
+abbrev pub answered : Reply → ℕ → Answered
+answered reply told = record { status = 0; reply = figures_of reply; length = length (reply_bytes reply); told = told }
 
 -- what is said where there is no reply
 abbrev pub unanswered : ℕ → Answered
-unanswered status = record { status = status; figures = plain 0 0; length = 0 }
+unanswered status = record { status = status; reply = plain 0 0; length = 0; told = 0 }
 
 -- a call was made in a sitting, and its reply is said and copied
 pub record IsAnswered (c : Listed) (old : Sitting) (answer : Answered) (new : Sitting) (before after : List ℕ) : Type 0 where
   pub reply : Reply
   pub replies : Replies (learners_in old) c (world_in old) reply (told_in new) (world_in new)
-  pub is : answer ≡ answered reply
+  pub is : answer ≡ answered reply (length (told_in new))
   pub copied : after ≡ over (reply_bytes reply) before
 
 -- memory was refused: nothing is copied, and the call was made, or nothing changed

@@ -28,9 +28,11 @@ pub struct Answered {
     /// 0 the call was made; 3 memory was refused, and it was made, or nothing changed; 4 there is no world; 7 these numbers and bytes make no call.
     pub status: u32,
     /// The numbers of the reply; all 0 if there is none.
-    pub figures: Figures,
+    pub reply: Figures,
     /// How many bytes the reply has: more than were copied if there was too little room.
     pub length: usize,
+    /// How many bytes are told of what those learn who are watched.
+    pub told: usize,
 }
 
 /// What is said where there is no reply.
@@ -39,14 +41,20 @@ fn unanswered(status: u32) -> Answered
 {
     Answered {
         status,
-        figures: no_figures(),
+        reply: no_figures(),
         length: 0,
+        told: 0,
     }
 }
 
 /// What is said of a reply, whose bytes are copied as far as there is room. Fails only if memory runs out: then nothing is copied.
-fn answered(alloc: Global, reply: Reply<ServerBox>, out: &mut [u8]) -> Result<Answered, AllocError>
-    ensures ok { IfOk result (λ answer. (answer ≡ answered (reply_by box_meaning reply)) × (out.new ≡ over (reply_bytes (reply_by box_meaning reply)) out.old)) }
+fn answered(
+    alloc: Global,
+    reply: Reply<ServerBox>,
+    told: usize,
+    out: &mut [u8],
+) -> Result<Answered, AllocError>
+    ensures ok { IfOk result (λ answer. (answer ≡ answered (reply_by box_meaning reply) told) × (out.new ≡ over (reply_bytes (reply_by box_meaning reply)) out.old)) }
     ensures err { IfErr result (λ _. out.new ≡ out.old) }
 {
     let figures = figures_of(&reply);
@@ -54,8 +62,9 @@ fn answered(alloc: Global, reply: Reply<ServerBox>, out: &mut [u8]) -> Result<An
     copied(bytes.as_slice(), 0, out);
     Ok(Answered {
         status: 0,
-        figures,
+        reply: figures,
         length: bytes.len(),
+        told,
     })
 }
 
@@ -72,7 +81,7 @@ fn called(
     let Ok(reply) = sitting.call(alloc, listed) else {
         return unanswered(3);
     };
-    match answered(alloc, reply, out) {
+    match answered(alloc, reply, sitting.told().len(), out) {
         Ok(answer) => answer,
         Err(_) => unanswered(3),
     }

@@ -15,7 +15,7 @@ use Rattle.hurd_numbers.specs.declared.figures.Figures.{Figures}
 
 -- a reply with a number
 abbrev pub plain : ℕ → ℕ → Figures
-plain which n = record { reply = which; error = 0; retry = 0; kind = 0; mode = 0; owner = 0; group = 0; links = 0; translators = 0; number = n; size = 0 }
+plain which n = record { which = which; error = 0; retry = 0; kind = 0; mode = 0; owner = 0; group = 0; links = 0; translators = 0; number = n; size = 0 }
 
 -- how a lookup goes on
 abbrev pub retry_number : RetryKind → ℕ
@@ -42,7 +42,7 @@ translators_of s = number_if s.passive 1 + number_if s.active 2
 -- attributes
 abbrev pub stat_figures : Stat → Figures
 stat_figures s = record {
-  reply = 10;
+  which = 10;
   error = 0;
   retry = 0;
   kind = kind_number s.kind;

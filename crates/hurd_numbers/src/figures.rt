@@ -16,7 +16,7 @@ use std::alloc::{AllocError, Global};
 pub struct Figures {
     /// Which reply: 1 done, 2 a lookup is done, 3 it goes on, 4 a translator is to be started first, 5 a port, 6 data, 7 a count, 8 names, 9 words, 10 attributes,
     /// 11 modes, 12 whether two ports are on one node, 13 refused, 14 refused, and the server that was brought is dropped.
-    pub reply: u32,
+    pub which: u32,
     /// The number of the error that it was refused by.
     pub error: u32,
     /// How a lookup goes on: 0 at the port, 1 at the port that `io_reauthenticate` makes of it, 2 at the task itself.
@@ -43,11 +43,11 @@ pub fn no_figures() -> Figures
 }
 
 /// A reply with a number.
-fn plain(reply: u32, number: u64) -> Figures
-    ensures { result ≡ plain reply number }
+fn plain(which: u32, number: u64) -> Figures
+    ensures { result ≡ plain which number }
 {
     Figures {
-        reply,
+        which,
         error: 0,
         retry: 0,
         kind: 0,
@@ -104,7 +104,7 @@ fn stat_figures(stat: &Stat) -> Figures
     ensures { result ≡ stat_figures stat.now }
 {
     Figures {
-        reply: 10,
+        which: 10,
         error: 0,
         retry: 0,
         kind: kind_number(stat.kind),
