@@ -23,6 +23,60 @@ struct Said {
     length: usize,
 }
 
+/// The numbers of a call: `hurd_request` of hurd.h, which says what each means. Those that a call has no use for are 0.
+#[repr(C)]
+#[derive(Clone, Copy, Debug, Default)]
+pub struct Request {
+    pub task: u32,
+    pub call: u32,
+    pub port: u64,
+    pub other: u64,
+    pub amount: u64,
+    pub offset: i64,
+    pub flags: u32,
+    pub mode: u32,
+    pub owner: u32,
+    pub group: u32,
+    pub to: u32,
+    pub active: u32,
+    pub goaway: u32,
+    pub brings: u32,
+}
+
+/// The numbers of a reply: `hurd_figures` of hurd.h, which says what each means.
+#[repr(C)]
+#[derive(Clone, Copy, Debug, Default, PartialEq, Eq)]
+pub struct Figures {
+    pub which: u32,
+    pub error: u32,
+    pub retry: u32,
+    pub kind: u32,
+    pub mode: u32,
+    pub owner: u32,
+    pub group: u32,
+    pub links: u32,
+    pub translators: u32,
+    pub number: u64,
+    pub size: u64,
+}
+
+/// `hurd_reply` of hurd.h.
+#[repr(C)]
+struct Answer {
+    status: u32,
+    reply: Figures,
+    length: usize,
+    told: usize,
+}
+
+/// The reply to a call: its numbers, and as many of its bytes as were wanted; and what those who are watched learn from the call.
+#[derive(Clone, Debug, PartialEq, Eq)]
+pub struct Reply {
+    pub figures: Figures,
+    pub bytes: Vec<u8>,
+    pub told: Vec<u8>,
+}
+
 /// A function that takes a world and a text, and copies what the text prints.
 type Tell = unsafe extern "C" fn(*mut Held, *const u8, usize, *mut u8, usize) -> Said;
 
@@ -34,6 +88,8 @@ extern "C" {
     fn hurd_make(world: *mut Held, calls: *const u8, size: usize, out: *mut u8, room: usize) -> Said;
     fn hurd_told(world: *mut Held, from: usize, out: *mut u8, room: usize) -> usize;
     fn hurd_watch(world: *mut Held, who: *const u8, size: usize) -> Said;
+    fn hurd_call(world: *mut Held, request: *const Request, bytes: *const u8, size: usize, out: *mut u8, room: usize) -> Answer;
+    fn hurd_line(request: *const Request, bytes: *const u8, size: usize, out: *mut u8, room: usize) -> Said;
     fn hurd_end(world: *mut Held);
     fn hurd_run(kind: u32, text: *const u8, size: usize, out: *mut u8, room: usize) -> Said;
     fn hurd_learn(kind: u32, text: *const u8, size: usize, who: *const u8, who_size: usize, out: *mut u8, room: usize) -> Said;
@@ -65,6 +121,8 @@ pub enum Error {
     NoMemory { told: Vec<u8> },
     /// Somebody who is named isn't there. The reason is empty if the library gives none.
     Unknown { reason: Vec<u8> },
+    /// The numbers and bytes make no call, or their line would be longer than a list may be.
+    NoCall,
     /// A status that no function here can end with, or that is new.
     Other { status: u32 },
 }
@@ -78,6 +136,7 @@ impl fmt::Display for Error {
             Error::BadText { reason, .. } | Error::Unknown { reason } => write!(f, "{}", String::from_utf8_lossy(reason)),
             Error::Refused { error } => write!(f, "the world could not be created: error {error}"),
             Error::NoMemory { .. } => write!(f, "out of memory"),
+            Error::NoCall => write!(f, "these numbers and bytes make no call"),
             Error::Other { status } => write!(f, "the library ended with status {status}"),
         }
     }
@@ -100,6 +159,7 @@ fn ended(said: &Said, told: Vec<u8>) -> Result<Vec<u8>, Error> {
         2 => Err(Error::Refused { error: said.error }),
         3 => Err(Error::NoMemory { told }),
         5 => Err(Error::Unknown { reason: reason(&told) }),
+        7 => Err(Error::NoCall),
         status => Err(Error::Other { status }),
     }
 }
@@ -127,6 +187,19 @@ impl World {
         // SAFETY: the world is one that these functions alone write, and the bytes are those of a slice.
         let said = unsafe { hurd_watch(&mut self.held, who.as_ptr(), who.len()) };
         ended(&said, Vec::new()).map(drop)
+    }
+
+    /// Makes one call as numbers and bytes, and returns its reply with at most `room` of its bytes.
+    pub fn call(&mut self, request: &Request, bytes: &[u8], room: usize) -> Result<Reply, Error> {
+        let mut out = vec![0; room];
+        // SAFETY: as above; the request is one that the library only reads.
+        let answer = unsafe { hurd_call(&mut self.held, request, bytes.as_ptr(), bytes.len(), out.as_mut_ptr(), out.len()) };
+        ended(&Said { status: answer.status, error: 0, line: 0, length: 0 }, Vec::new())?;
+        out.truncate(answer.length);
+        let mut told = vec![0; answer.told];
+        // SAFETY: the same.
+        unsafe { hurd_told(&mut self.held, 0, told.as_mut_ptr(), told.len()) };
+        Ok(Reply { figures: answer.reply, bytes: out, told })
     }
 
     /// Gives a text to the library, and returns all that it prints. If there was too little room, it asks for the rest.
@@ -161,6 +234,12 @@ fn printed(ask: impl Fn(&mut [u8]) -> Said) -> Result<Vec<u8>, Error> {
             return ended(&said, told);
         }
     }
+}
+
+/// The line of a list that makes the same call as `World::call` with these numbers and bytes.
+pub fn line(request: &Request, bytes: &[u8]) -> Result<Vec<u8>, Error> {
+    // SAFETY: all bytes are those of slices, and the room is one that nothing else has.
+    printed(|out| unsafe { hurd_line(request, bytes.as_ptr(), bytes.len(), out.as_mut_ptr(), out.len()) })
 }
 
 /// The same, for a function that takes names.
@@ -205,6 +284,11 @@ fn main() -> Result<(), Box<dyn error::Error>> {
     out.write_all(&world.make(b"1 dir_lookup 1 =motd WRITE 0")?)?;
     world.learn(b"1")?;
     out.write_all(&world.make(b"0 dir_mkdir 1 =d 700")?)?;
+
+    // one call as numbers and bytes: alice reads the notice by io_read, the fifth call
+    let read = Request { task: 1, call: 5, port: 3, amount: 100, ..Request::default() };
+    let reply = world.call(&read, b"", 100)?;
+    writeln!(out, "{} is answered by {} bytes: {:?}", String::from_utf8_lossy(&line(&read, b"")?), reply.figures.number, String::from_utf8_lossy(&reply.bytes))?;
 
     let script = b"user alice - -\nroot put /f x\n";
     out.write_all(&run(Kind::Script, script)?)?;
