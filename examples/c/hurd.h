@@ -68,6 +68,14 @@ size_t hurd_told(hurd_world *world, size_t from, uint8_t *out, size_t room);
 /* Frees the world. */
 void hurd_end(hurd_world *world);
 
+/* The errors, by the numbers that this library has for them: they are no errno of C. */
+enum {
+    HURD_EPERM = 1, HURD_ENOENT = 2, HURD_EIO = 3, HURD_EBADF = 4, HURD_ENOMEM = 5, HURD_EACCES = 6, HURD_EBUSY = 7, HURD_EEXIST = 8, HURD_EXDEV = 9,
+    HURD_ENOTDIR = 10, HURD_EISDIR = 11, HURD_EINVAL = 12, HURD_EFBIG = 13, HURD_EROFS = 14, HURD_EPIPE = 15, HURD_EWOULDBLOCK = 16, HURD_ELOOP = 17,
+    HURD_ENAMETOOLONG = 18, HURD_ENOTEMPTY = 19, HURD_EOPNOTSUPP = 20, HURD_EDIED = 21, HURD_ENXIO = 22, HURD_ESRCH = 23, HURD_EOVERFLOW = 24,
+    HURD_ENOSPC = 25
+};
+
 /* ONE CALL AS NUMBERS AND BYTES: no text is written or read on the way. */
 
 /* The calls. */

@@ -21,7 +21,7 @@ import threading
 from typing import Any, Dict, List, NamedTuple, NoReturn, Tuple, Union
 
 __all__ = [
-    "BadText", "Call", "HurdError", "Kind", "NoCall", "NoKind", "NoMemory", "NoWorld", "Refused", "Reply", "Unknown", "Which", "World", "can", "draw", "learn", "line", "run",
+    "BadText", "Call", "Error", "HurdError", "Kind", "NoCall", "NoKind", "NoMemory", "NoWorld", "Refused", "Reply", "Unknown", "Which", "World", "can", "draw", "learn", "line", "run",
     "see",
 ]
 
@@ -139,6 +139,36 @@ class Call(enum.IntEnum):
     DIR_UNLINK = 35
     DIR_LINK = 36
     DIR_RENAME = 37
+
+
+class Error(enum.IntEnum):
+    """The errors, by the numbers that the library has for them. They are no numbers of `errno`."""
+
+    EPERM = 1
+    ENOENT = 2
+    EIO = 3
+    EBADF = 4
+    ENOMEM = 5
+    EACCES = 6
+    EBUSY = 7
+    EEXIST = 8
+    EXDEV = 9
+    ENOTDIR = 10
+    EISDIR = 11
+    EINVAL = 12
+    EFBIG = 13
+    EROFS = 14
+    EPIPE = 15
+    EWOULDBLOCK = 16
+    ELOOP = 17
+    ENAMETOOLONG = 18
+    ENOTEMPTY = 19
+    EOPNOTSUPP = 20
+    EDIED = 21
+    ENXIO = 22
+    ESRCH = 23
+    EOVERFLOW = 24
+    ENOSPC = 25
 
 
 class Which(enum.IntEnum):

@@ -6,11 +6,12 @@ from __future__ import annotations
 
 import copy
 import ctypes
+import re
 import subprocess
 import sys
 import threading
 from pathlib import Path
-from typing import Any, Callable, Iterator, List, NamedTuple, Optional, Tuple, Type
+from typing import Any, Callable, Dict, Iterator, List, NamedTuple, Optional, Tuple, Type
 
 import hurd
 from hurd import Kind, World
@@ -87,6 +88,163 @@ def test_lists_a_call_at_a_time() -> None:
         with World(tasks) as world:
             assert world.told == "", path
             assert "".join(map(world.make, calls)) == told_of(path.with_suffix(".transcript")), path
+
+
+# CALLS AS NUMBERS AND BYTES
+
+OPEN_FLAGS = {name: 1 << bit for bit, name in enumerate("READ WRITE EXEC APPEND CREATE EXCL NOTRANS NOLINK DIRECTORY".split())}
+SET_FLAGS = {"SET": 1, "EXCL": 2, "ORPHAN": 4}
+GO_FLAGS = {"FORCE": 1, "NOSYNC": 2, "NOWAIT": 4}
+WHENCE = {"Set": 0, "Current": 1, "End": 2}
+# What comes after the port of a call in a line of a list.
+ARGUMENTS = {
+    "port_send": "to", "io_read": "amount offset", "io_write": "data offset", "io_seek": "offset whence", "io_set_all_openmodes": "flags", "io_restrict_auth": "ids",
+    "io_identity": "other", "file_chmod": "mode", "file_chown": "owner group", "file_set_size": "amount", "fsys_getroot": "other flags", "fsys_goaway": "goaway",
+    "fsys_set_options": "words", "dir_lookup": "data flags mode", "dir_mkdir": "data mode", "dir_mkfile": "flags mode", "dir_rmdir": "data", "dir_unlink": "data",
+    "dir_link": "data other", "dir_rename": "name other new", "file_set_translator": "passive active goaway words",
+}
+
+
+def bits(word: str, names: Dict[str, int]) -> int:
+    """The bits of flags by their names."""
+    return 0 if word == "-" else sum({names[name] for name in word.split(",")})
+
+
+def spelled(word: str) -> bytes:
+    """What a word of a list spells, after its `=`."""
+    assert word[0] == "=", word
+    escapes = {"s": b" ", "n": b"\n", "\\": b"\\"}
+    parts = re.findall(r"\\x..|\\.|[^\\]", word[1:])
+    return b"".join(bytes([int(part[2:], 16)]) if part[:2] == "\\x" else escapes[part[1]] if part[0] == "\\" else part.encode() for part in parts)
+
+
+def numbers_of(line: str) -> Tuple[int, int, bytes, Dict[str, int]]:
+    """The call of a line: its task, which it is, its bytes and its other numbers."""
+    task, name, *rest = line.split()
+    data, numbers = b"", {}
+    if name not in ("port_receive", "start_failed", "auth_makeauth", "fsys_startup"):
+        numbers["port"] = int(rest.pop(0))
+    for kind in ARGUMENTS.get(name, "ids" if name == "auth_makeauth" else "words" if name == "fsys_startup" else "").split():
+        if kind == "words":
+            box = rest.index("box") if "box" in rest else len(rest)
+            words = [spelled(word) for word in rest[:box] + rest[box + 1:]]
+            data, numbers["amount"], numbers["brings"] = b"".join(word + b"\0" for word in words), box, box < len(rest)
+            break
+        word = rest.pop(0)
+        if kind == "ids":
+            data = (word + "\0" + rest.pop(0) + "\0").encode()
+        elif kind in ("data", "name", "new"):
+            data += spelled(word)
+            if kind == "name":
+                numbers["amount"] = len(data)
+        elif kind in ("flags", "passive", "active", "goaway"):
+            numbers[kind.replace("passive", "flags")] = bits(word, OPEN_FLAGS if kind == "flags" else GO_FLAGS if kind == "goaway" else SET_FLAGS)
+        else:
+            numbers[kind.replace("whence", "flags")] = WHENCE[word] if kind == "whence" else int(word, 8 if kind == "mode" else 10)
+    return int(task), hurd.Call[name.upper()], data, numbers
+
+
+def shown(data: bytes) -> str:
+    """Bytes as a list shows them, after `=`."""
+    odd = {32: "\\s", 10: "\\n", 92: "\\\\"}
+    return "=" + "".join(odd.get(byte) or (chr(byte) if 33 <= byte <= 126 else f"\\x{byte:02x}") for byte in data)
+
+
+def reply_text(reply: hurd.Reply) -> str:
+    """A reply as `hurd run --calls` prints it, without the two spaces before it."""
+    names = [name for name, bit in OPEN_FLAGS.items() if reply.number & bit]
+    kind = "File Dir Link Fifo Char".split()[reply.kind]
+    retry = "NORMAL REAUTH MAGICAL".split()[reply.retry]
+    return {
+        hurd.Which.DONE: lambda: "Done",
+        hurd.Which.FOUND: lambda: f"Found Done {reply.number}",
+        hurd.Which.RETRY: lambda: f"Found Retry {retry} {shown(reply.data)}" + (f" {reply.number}" if retry != "MAGICAL" else ""),
+        hurd.Which.START: lambda: " ".join(["Found Start", *map(shown, reply.words)]),
+        hurd.Which.PORT: lambda: f"Port {reply.number}",
+        hurd.Which.DATA: lambda: f"Data {shown(reply.data)}",
+        hurd.Which.COUNT: lambda: f"Count {reply.number}",
+        hurd.Which.NAMES: lambda: " ".join(["Names", *map(shown, reply.words)]),
+        hurd.Which.WORDS: lambda: " ".join(["Words", *map(shown, reply.words)]),
+        hurd.Which.STAT: lambda: f"Stat {kind} {reply.owner} {reply.group} {reply.mode:06o} {reply.links} {reply.size}" + " passive" * (reply.translators & 1) + " active" * (reply.translators >> 1),
+        hurd.Which.MODES: lambda: f"Modes {','.join(names) or '-'}",
+        hurd.Which.SAME: lambda: f"Same {'true' if reply.number else 'false'}",
+        hurd.Which.REFUSED: lambda: f"Refused {hurd.Error(reply.error).name}",
+        hurd.Which.BACK: lambda: f"Back {hurd.Error(reply.error).name}",
+    }[reply.which]()
+
+
+def by_numbers(world: World, line: str) -> str:
+    """What a call prints that is made as numbers and bytes, with what is learned from it. Its own line is read back."""
+    task, call, data, numbers = numbers_of(line)
+    assert numbers_of(hurd.line(task, call, data, **numbers))[:3] == (task, call, data), line
+    reply = world.call(task, call, data, room=1 << 20, **numbers)
+    return f"{line.strip()}\n  {reply_text(reply)}\n{world.told}"
+
+
+def test_lists_as_numbers() -> None:
+    """Each call of each list has the same reply as numbers and bytes."""
+    for path in LISTS:
+        tasks, calls = split(told_of(path))
+        with World(tasks) as world:
+            assert "".join(by_numbers(world, line) for line in calls) == told_of(path.with_suffix(".transcript")), path
+
+
+def test_lessons_of_numbers() -> None:
+    """Who is watched learns from calls as numbers what he learns from their text."""
+    for path in LISTS:
+        tasks, calls = split(told_of(path))
+        for who in ("0", "1", "0,1") if tasks.count("task") > 1 else ("0",):
+            with World(tasks) as texts, World(tasks) as numbers:
+                texts.learn(who)
+                numbers.learn(who)
+                for line in calls:
+                    lessons = [said for said in texts.make(line).splitlines() if re.match(r"  tasks? [0-9,]+ learns?: ", said)]
+                    by_numbers(numbers, line)
+                    assert numbers.told.splitlines() == lessons, (path, line)
+
+
+def test_lines_of_numbers() -> None:
+    """The line of a call as numbers makes the same call."""
+    for path in LISTS:
+        tasks, calls = split(told_of(path))
+        with World(tasks) as world:
+            made = [hurd.line(*numbers_of(line)[:3], **numbers_of(line)[3]) for line in calls]
+            told = "".join(map(world.make, made)).splitlines()[1::2]
+            assert told == told_of(path.with_suffix(".transcript")).splitlines()[1::2], path
+
+
+def test_bad_numbers() -> None:
+    """Numbers and bytes that make no call are refused, and nothing changes."""
+    with World(FILE) as world:
+        bad: List[Tuple[int, int, bytes, Dict[str, int]]] = [
+            (0, 0, b"", {}), (0, 38, b"", {}), (0, 2**32 - 1, b"", {}), (0, hurd.Call.DIR_LOOKUP, b"x", {"port": 1, "flags": 512}),
+            (0, hurd.Call.DIR_LOOKUP, b"x", {"port": 1, "flags": 2**31}), (0, hurd.Call.IO_SEEK, b"", {"port": 3, "flags": 3}), (0, hurd.Call.FSYS_GOAWAY, b"", {"port": 3, "goaway": 8}),
+            (0, hurd.Call.FILE_SET_TRANSLATOR, b"/hurd/null\0", {"port": 3, "flags": 8}), (0, hurd.Call.FILE_SET_TRANSLATOR, b"/hurd/null", {"port": 3, "flags": 1}),
+            (0, hurd.Call.FILE_SET_TRANSLATOR, b"/hurd/null\0", {"port": 3, "active": 1, "brings": 1, "amount": 2}),
+            (0, hurd.Call.FILE_SET_TRANSLATOR, b"/hurd/nothing\0", {"port": 3, "active": 1, "brings": 1}), (0, hurd.Call.FSYS_STARTUP, b"", {}),
+            (0, hurd.Call.FSYS_SET_OPTIONS, b"x\0" * 33, {"port": 3}), (0, hurd.Call.DIR_RENAME, b"ab", {"port": 1, "amount": 3}), (0, hurd.Call.AUTH_MAKEAUTH, b"0\0", {}),
+            (0, hurd.Call.AUTH_MAKEAUTH, b"0\0x\0", {}), (0, hurd.Call.AUTH_MAKEAUTH, b"\xff\0-\0", {}), (0, hurd.Call.IO_RESTRICT_AUTH, b"0\0-\0x", {"port": 3}),
+        ]
+        before = world.make("0 io_stat 3")
+        for task, call, data, numbers in bad:
+            raises(hurd.NoCall, lambda: world.call(task, call, data, **numbers))
+            raises(hurd.NoCall, lambda: hurd.line(task, call, data, **numbers))
+        assert world.make("0 io_stat 3") == before
+        assert world.call(7, hurd.Call.IO_STAT, port=3).error == hurd.Error.ESRCH and world.call(1, hurd.Call.IO_STAT, port=2**64 - 1).error == hurd.Error.EBADF
+        raises(TypeError, lambda: world.call(0, hurd.Call.IO_STAT, ports=3))
+        raises(ValueError, lambda: world.call(0, hurd.Call.IO_STAT, port=-1))
+        raises(ValueError, lambda: world.call(2**32, hurd.Call.IO_STAT, port=3))
+        whole = bytes(range(256)) * 65536
+        assert world.call(0, hurd.Call.IO_WRITE, whole, port=3, offset=0).number == len(whole) == 2**24
+        assert world.call(0, hurd.Call.IO_WRITE, b"x", port=3, offset=2**24).error == hurd.Error.EFBIG
+        raises(hurd.NoCall, lambda: hurd.line(0, hurd.Call.IO_WRITE, whole, port=3, offset=0))
+        part = world.call(0, hurd.Call.IO_READ, port=3, amount=65536, offset=256, room=100)
+        assert (part.number, part.data) == (65536, bytes(range(100)))
+    raises(hurd.NoWorld, lambda: world.call(0, hurd.Call.IO_STAT, port=3))
+    with World(FILE) as world:
+        world.call(0, hurd.Call.DIR_MKDIR, b"d", port=1, mode=0o755)
+        with world.fork() as other:
+            assert other.call(0, hurd.Call.DIR_READDIR, port=1).words == world.call(0, hurd.Call.DIR_READDIR, port=1).words == [b"motd", b"d"]
 
 
 def test_lists_in_a_world_of_their_own() -> None:
