@@ -1,8 +1,8 @@
 /* Does through the library what `hurd_trials bench` does in its own process for the rows create and stat: three calls for each file, in a world that is kept. Then it does stat
    again, while another task that sees all files is watched. Prints rows of the same form.
 
-   embed FILES LINES WAY: LINES calls are in a text, 1 or more; WAY is what the rows are called. To write the lines is part of the work. Status 1 with one line where something
-   goes wrong. */
+   embed FILES LINES WAY: LINES calls are in a text, 1 or more, or 0 if each is made as numbers and bytes; WAY is what the rows are called. To write the lines is part of the work.
+   With 0 it also writes and reads 65,536 bytes at a time, as `memcpy` copies them, in a file of 1 MB. Status 1 with one line where something goes wrong. */
 #define _GNU_SOURCE
 #include "hurd.h"
 #include <stdarg.h>
@@ -45,17 +45,41 @@ static void call(const char *format, ...) {
     size += vsnprintf(text + size, sizeof text - size, format, words);
     va_end(words);
     must(size < sizeof text, "too many lines");
-    if (++lines == most_lines)
+    if (++lines >= most_lines)
         make();
 }
 
+/* Makes a call as numbers and bytes, and gives the number of its reply. */
+static uint64_t made(const hurd_request *request, const char *bytes, size_t count) {
+    hurd_reply is = hurd_call(&world, request, (const uint8_t *)bytes, count, out, room);
+    must(is.status == HURD_DONE && is.reply.which != HURD_IS_REFUSED, "a call is refused");
+    return is.reply.number;
+}
+
+/* Opens a file by numbers, makes a call on it, and closes it. */
+static void by_numbers(long file, uint32_t flags, uint32_t which, const char *bytes) {
+    char path[64];
+    int length = snprintf(path, sizeof path, "d%ld/f%ld", file / directory_size, file);
+    uint64_t found = made(&(hurd_request){ .task = 1, .call = HURD_DIR_LOOKUP, .port = 1, .flags = flags, .mode = 0644 }, path, length);
+    made(&(hurd_request){ .task = 1, .call = which, .port = found, .offset = -1 }, bytes, strlen(bytes));
+    made(&(hurd_request){ .task = 1, .call = HURD_PORT_DEALLOCATE, .port = found }, "", 0);
+}
+
 static void create(long file) {
+    if (!most_lines) {
+        by_numbers(file, HURD_WRITE | HURD_CREATE, HURD_IO_WRITE, "contents");
+        return;
+    }
     call("1 dir_lookup 1 =d%ld/f%ld WRITE,CREATE 644\n", file / directory_size, file);
     call("1 io_write %ld =contents -1\n", port);
     call("1 port_deallocate %ld\n", port++);
 }
 
 static void stat_one(long file) {
+    if (!most_lines) {
+        by_numbers(file, 0, HURD_IO_STAT, "");
+        return;
+    }
     call("1 dir_lookup 1 =d%ld/f%ld - 0\n", file / directory_size, file);
     call("1 io_stat %ld\n", port);
     call("1 port_deallocate %ld\n", port++);
@@ -71,26 +95,55 @@ static void measure(const char *way, const char *name, void (*once)(long file), 
     long long start = now();
     for (long i = 0; i < files; i++)
         once(i);
-    make();
+    if (most_lines)
+        make();
     printf("%s, %s: %ld done, %lld ns each\n", way, name, files, (now() - start) / files);
+}
+
+/* Writes and reads the same blocks of a file, and copies them, so many times; prints how long each takes. */
+static void measure_data(void) {
+    enum { block = 65536, blocks = 16, rounds = 200 };
+    static char from[block * blocks], to[block * blocks];
+    uint64_t file = made(&(hurd_request){ .task = 1, .call = HURD_DIR_LOOKUP, .port = 1, .flags = HURD_READ | HURD_WRITE | HURD_CREATE, .mode = 0644 }, "d0/data", 7);
+    const char *names[] = { "io_write", "io_read", "memcpy" };
+    long long took[3];
+    memset(from, 'x', sizeof from);
+    for (int way = 0; way < 3; way++) {
+        long long start = now();
+        for (int i = 0; i < rounds * blocks; i++) {
+            int64_t at = (int64_t)(i % blocks) * block;
+            if (way == 2)
+                memcpy(to + at, from + at, block);
+            else
+                made(&(hurd_request){ .task = 1, .call = way ? HURD_IO_READ : HURD_IO_WRITE, .port = file, .amount = block, .offset = at }, from + at, way ? 0 : block);
+            __asm__ volatile("" : : "r"(to) : "memory");
+        }
+        took[way] = (now() - start) / (rounds * blocks);
+        printf("data: %s of 65536 bytes: %lld ns\n", names[way], took[way]);
+    }
+    printf("data: io_write %.1f and io_read %.1f times memcpy\n", (double)took[0] / took[2], (double)took[1] / took[2]);
 }
 
 int main(int count, char **words) {
     must(count == 4, "usage: embed FILES LINES WAY");
     long files = atol(words[1]);
     most_lines = atol(words[2]);
-    must(files > 0 && most_lines > 0, "FILES and LINES are numbers from 1 on");
+    must(files > 0 && most_lines >= 0, "FILES is a number from 1 on, and LINES from 0 on");
     const char *tasks = "task 0 0\ntask 1000 1000\ntask 1001 1001\n";
     hurd_said said = hurd_begin(&world, (const uint8_t *)tasks, strlen(tasks), out, room);
     must(said.status == HURD_DONE, "no world was begun");
     for (long i = 0; i * directory_size < files; i++)
         call("0 dir_mkdir 1 =d%ld 777\n", i);
-    make();
+    if (lines)
+        make();
     measure(words[3], "create", create, files);
     measure(words[3], "stat", stat_one, files);
     /* another task sees all files, and what it learns is told */
     must(hurd_watch(&world, (const uint8_t *)"2", 1).status == HURD_DONE, "a watch is refused");
     measure(words[3], "stat, watched", stat_one, files);
+    must(hurd_watch(&world, (const uint8_t *)"", 0).status == HURD_DONE, "a watch is not ended");
+    if (!most_lines)
+        measure_data();
     hurd_end(&world);
     return 0;
 }

@@ -1,6 +1,7 @@
 /* Steps of a program over the library, a word each. begin=TEXT, make=TEXT, watch=WHO, told=FROM and end are about a world that is kept; run=TEXT, learn=TEXT, see=TEXT,
-   can=TEXT and draw=TEXT about a whole text. After each except `end` it prints the bytes that were copied, if any may be, and a line that says how it ended. room=N,
-   sort=N, who=WHO and every=N say what the later steps are given, and file=NAME which file has the next text.
+   can=TEXT and draw=TEXT about a whole text. call=BYTES makes one call in the world, and line=BYTES gives its line; numbers=N,.. has its numbers, in the order of
+   hurd_request, and a `|` among the bytes stands for a zero byte. After each except `end` it prints the bytes that were copied, if any may be, and a line that says how
+   it ended. room=N, kind=N, who=WHO and every=N say what the later steps are given, and file=NAME which file has the next text.
 
    Each text and each room has a block of its own of that size, so that a tool which checks memory sees a byte too many. Bytes after those that were copied should
    be as they were. With the first word `on` the program goes on if memory is refused; without it, it says so and ends. */
@@ -16,7 +17,8 @@ enum { FILLED = 0xa5, MOST = 1 << 22 };
 static hurd_world world = HURD_NO_WORLD;
 static size_t room = 4096;
 static int goes_on;
-static uint32_t sort, every;
+static uint32_t kind, every;
+static hurd_request request;
 static const char *who = "", *file;
 static uint8_t *text, *named, *out;
 
@@ -141,10 +143,44 @@ static int step_of_text(const char *word)
         size_t size = take(rest);
         named = copy(who, strlen(who));
         fill();
-        say(all[i].asks ? all[i].asks(sort, text, size, named, strlen(who), out, room) : hurd_run(sort, text, size, out, room));
+        say(all[i].asks ? all[i].asks(kind, text, size, named, strlen(who), out, room) : hurd_run(kind, text, size, out, room));
         return 1;
     }
     return 0;
+}
+
+/* The numbers of the next calls, with commas between them; those that are not given are 0. */
+static void number(const char *word)
+{
+    char *rest = (char *)word;
+    long long all[14] = { 0 };
+    for (size_t i = 0; i < sizeof all / sizeof *all && *rest; i++, rest += *rest == ',')
+        all[i] = strtoll(rest, &rest, 10);
+    request = (hurd_request){ all[0], all[1], all[2], all[3], all[4], all[5], all[6], all[7], all[8], all[9], all[10], all[11], all[12], all[13] };
+}
+
+/* Makes one call of these bytes, or gives its line, if the word is such a step. */
+static int step_of_call(const char *word)
+{
+    const char *rest = said_by(word, "call"), *line = said_by(word, "line");
+    if (!rest && !line)
+        return 0;
+    size_t size = take(rest ? rest : line);
+    for (size_t i = 0; i < size; i++)
+        text[i] = text[i] == '|' ? 0 : text[i];
+    fill();
+    if (line) {
+        say(hurd_line(&request, text, size, out, room));
+        return 1;
+    }
+    hurd_reply is = hurd_call(&world, &request, text, size, out, room);
+    if (is.status == HURD_MEMORY && !goes_on)
+        lack();
+    show(is.length < room ? is.length : room);
+    printf("[status %u which %u error %u number %llu length %zu told %zu]\n", (unsigned)is.status, (unsigned)is.reply.which, (unsigned)is.reply.error,
+           (unsigned long long)is.reply.number, is.length, is.told);
+    give_up();
+    return 1;
 }
 
 /* Makes a step of a world that is kept, if the word is one. */
@@ -183,15 +219,17 @@ static void step(const char *word)
         goes_on = 1;
     else if ((rest = said_by(word, "room")))
         room = strtoul(rest, NULL, 10);
-    else if ((rest = said_by(word, "sort")))
-        sort = strtoul(rest, NULL, 10);
+    else if ((rest = said_by(word, "kind")))
+        kind = strtoul(rest, NULL, 10);
+    else if ((rest = said_by(word, "numbers")))
+        number(rest);
     else if ((rest = said_by(word, "who")))
         who = rest;
     else if ((rest = said_by(word, "every")))
         every = strtoul(rest, NULL, 10);
     else if ((rest = said_by(word, "file")))
         file = rest;
-    else if (!step_of_world(word) && !step_of_text(word)) {
+    else if (!step_of_world(word) && !step_of_call(word) && !step_of_text(word)) {
         printf("no such step: %s\n", word);
         end(3);
     }
