@@ -2,9 +2,9 @@
 """Reads pictures that `hurd draw` printed, line by line, and compares them with what `hurd see` prints of the same text.
 
 In the folder that is named there are, for each text NAME: NAME itself, NAME.dot and, where somebody is marked, NAME.as.dot and NAME.can.dot; where they were asked for, NAME.all,
-what all see together, NAME.seen, what those see who are marked, and NAME.wide, what those see with all who have not root's uid. Each line of a picture is of a known form, and each byte is printable ASCII. Of NAME.all and NAME.dot the
+what all see together, NAME.seen, what those see who are marked, and NAME.wide, what those see with all who lack root's uid. Each line of a picture is of a known form, and each byte is printable ASCII. Of NAME.all and NAME.dot the
 nodes are the same by kind, mode, owner, group and size; so are the names in each directory, and the number of servers; a drawn port is one that its task has. In NAME.as.dot marked are exactly so many
-nodes of each kind, mode, owner, group and size as are seen there, and as wholly seen those whose bodies are. NAME.can.dot has the same marks, but at nodes of which NAME.wide has
+nodes of each kind, mode, owner, group and size as are seen there, and as wholly seen those whose bodies are. NAME.can.dot has the same marks, except at nodes of which NAME.wide has
 more, and one cell more in its legend. With the name of an SVG and of a file of texts behind it, each text stands in the SVG.
 """
 import collections
