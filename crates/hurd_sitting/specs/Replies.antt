@@ -15,7 +15,7 @@ LearnedBy None c w text = text ≡ []
 LearnedBy (Some learners) c w text = Lesson learners.tasks.items learners.who.items (among learners.tasks.items c.task.0) w (after_call c w) text
 
 -- a call was made in world w: this is its reply, this was told of it, and world x is after it
-pub record Replies (learners : Option Learners) (c : Listed) (w : World) (reply : Reply) (told : List ℕ) (x : World) : Type 0 where
-  pub reply : reply ≡ reply_of w c.task.0 c.call
-  pub told : LearnedBy learners c w told
+pub record Replies (learners : Option Learners) (c : Listed) (w : World) (r : Reply) (text : List ℕ) (x : World) : Type 0 where
+  pub reply : r ≡ reply_of w c.task.0 c.call
+  pub told : LearnedBy learners c w text
   pub leaves : x ≡ after_call c w

@@ -21,6 +21,7 @@ use hurd_kinds::ServerBox;
 use hurd_lists::{ListedCall, with_server};
 use hurd_machine::Reply;
 use hurd_teaching::{Learners, Watch, said_if_moved};
+use hurd_trans_iface::Server;
 use hurd_world::World;
 use std::alloc::{AllocError, Global};
 
@@ -32,19 +33,19 @@ pub(crate) struct Replied {
 }
 
 /// Makes a call with the server that it brings, and gives its reply. Fails only if memory runs out: then the call was made, or nothing changed.
-fn reply_to(
-    world: &mut World<ServerBox>,
+fn reply_to<S: Server>(
+    world: &mut World<S>,
     alloc: Global,
-    listed: ListedCall<ServerBox>,
-    server: Option<ServerBox>,
-) -> Result<Reply<ServerBox>, AllocError>
-    requires { begun listed.server ≡ option_map box_meaning server }
-    ensures reply { IfOk result (λ reply. reply_by box_meaning reply ≡ reply_of (world_of box_meaning world.old) listed.task.0 (listed_by box_meaning listed).call) }
-    ensures world { OnOk result (world_of box_meaning world.new ≡ after_call (listed_by box_meaning listed) (world_of box_meaning world.old)) }
-    ensures err { IfErr result (λ _. (world_of box_meaning world.new ≡ world_of box_meaning world.old)
-        ⊎ (world_of box_meaning world.new ≡ after_call (listed_by box_meaning listed) (world_of box_meaning world.old))) }
-    ensures noted { NotesWhatIsTouched (state_of box_meaning world.old) (state_of box_meaning world.new) }
-    ensures sound { Sound (world_of box_meaning world.old) → Sound (world_of box_meaning world.new) }
+    listed: ListedCall<S>,
+    server: Option<S>,
+) -> Result<Reply<S>, AllocError>
+    requires { begun listed.server ≡ option_map S.meaning server }
+    ensures reply { IfOk result (λ reply. reply_by S.meaning reply ≡ reply_of (world_of S.meaning world.old) listed.task.0 (listed_by S.meaning listed).call) }
+    ensures world { OnOk result (world_of S.meaning world.new ≡ after_call (listed_by S.meaning listed) (world_of S.meaning world.old)) }
+    ensures err { IfErr result (λ _. (world_of S.meaning world.new ≡ world_of S.meaning world.old)
+        ⊎ (world_of S.meaning world.new ≡ after_call (listed_by S.meaning listed) (world_of S.meaning world.old))) }
+    ensures noted { NotesWhatIsTouched (state_of S.meaning world.old) (state_of S.meaning world.new) }
+    ensures sound { Sound (world_of S.meaning world.old) → Sound (world_of S.meaning world.new) }
 {
     let ListedCall {
         task,
@@ -60,7 +61,7 @@ fn reply_to(
 }
 
 /// The same, with the server that its words make.
-fn replied(
+fn reply_by_words(
     world: &mut World<ServerBox>,
     alloc: Global,
     listed: ListedCall<ServerBox>,
@@ -94,7 +95,7 @@ fn replied_before(
 {
     let quiet = learners.have(listed.task);
     looked(world, alloc, learners, watch, quiet)?;
-    let reply = replied(world, alloc, listed)?;
+    let reply = reply_by_words(world, alloc, listed)?;
     let unmoved = !quiet && watch.misses(world.noted());
     let told = said_if_moved(alloc, world, learners, watch, quiet, unmoved)?;
     Ok(Replied { reply, told })
@@ -120,7 +121,7 @@ pub(crate) fn replied_with(
     match learners {
         Some(learners) => replied_before(world, alloc, listed, learners, watch),
         None => {
-            let reply = replied(world, alloc, listed)?;
+            let reply = reply_by_words(world, alloc, listed)?;
             let told = Bytes::new(Vec::new(alloc));
             Ok(Replied { reply, told })
         }

@@ -22,7 +22,7 @@ use hurd_lists::{CallList, ListedCall};
 use hurd_machine::Reply;
 use hurd_terminal::Fault;
 use hurd_world::World;
-use std::alloc::Global;
+use std::alloc::{AllocError, Global};
 
 /// A world that is kept, with the tasks that are watched in it; what the last text told; and how many tasks there are.
 #[derive(Drop)]

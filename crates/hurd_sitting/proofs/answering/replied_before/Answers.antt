@@ -19,7 +19,7 @@ pub said_if_moved-requires : goal.said_if_moved-requires
 said_if_moved-requires c =
     elim c.if-not-quiet.branch [
       | then-not-quiet b ↦ λ is.
-          let missed : misses (listed c.replied.new.world.noted) c.looked.new.watch.seen ≡ true = rw b.noted.ensures at (sym b.misses-unmoved.ensures ∙ (sym b.unmoved-is ∙ is)) in (
+          let missed : misses (listed c.reply_by_words.new.world.noted) c.looked.new.watch.seen ≡ true = rw b.noted.ensures at (sym b.misses-unmoved.ensures ∙ (sym b.unmoved-is ∙ is)) in (
             b.if-not-quiet.true,
             still_sees _ _ _ _ _ _ (subst Sound (sym c.looked.ensures.world) c.requires.sound) c.in_ok-reply.ensures.noted
                 (rw (← c.looked.ensures.world) at (c.in_ok-looked.ensures.sees b.if-not-quiet.true)) missed,
