@@ -6,7 +6,7 @@ use Rattle.hurd_can.proofs.dating.since.Goals as goal
 
 pub loop-answer-init : goal.loop-answer-init
 loop-answer-init g c =
-    rw (c.since_then.ensures, c.told.ensures)
+    rw (c.since_then-since.ensures, c.told.ensures)
     (left_first (row_of c.args.last.now c.args.part) c.args.tasks.now c.args.part (g.T.Telling.way c.args.telling.now) c.in_ok-alike.alike (rw (c.core.ensures, c.world.ensures) at c.in_ok-alike.ensures))
 
 pub loop-answer-smaller : goal.loop-answer-smaller
@@ -15,10 +15,17 @@ loop-answer-smaller g c =
     let less = one_less (g.T.Telling.way c.loop-answer.telling) (g.T.Telling.way c.next.new.self) c.in-Some._answer goes in
     omega (arith, less)
 
+pub loop-answer-preserved-in_ok-alike-2 : goal.loop-answer-preserved-in_ok-alike-2
+loop-answer-preserved-in_ok-alike-2 g c =
+    let goes = rw c.in-Some.is at c.in_ok-_answer.ensures.goes in
+    rw (c.since_then-since-in-Some.ensures, c.told-in-Some.ensures)
+    (left_next (row_of c.args.last.now c.args.part) c.args.tasks.now c.args.part (g.T.Telling.way c.args.telling.now) (g.T.Telling.way c.loop-answer.telling) (g.T.Telling.way c.next.new.self) c.in-Some._answer
+    c.in_ok-alike-2.alike c.loop-answer.since goes (rw (c.core-in-Some.ensures, c.world-in-Some.ensures) at c.in_ok-alike-2.ensures) c.loop-answer.invariant)
+
 pub loop-answer-preserved : goal.loop-answer-preserved
 loop-answer-preserved g c =
     let goes = rw c.in-Some.is at c.in_ok-_answer.ensures.goes in
-    rw (c.since_then-in-Some.ensures, c.told-in-Some.ensures)
+    rw (c.since_then-since-in-Some.ensures, c.told-in-Some.ensures)
     (left_next (row_of c.args.last.now c.args.part) c.args.tasks.now c.args.part (g.T.Telling.way c.args.telling.now) (g.T.Telling.way c.loop-answer.telling) (g.T.Telling.way c.next.new.self) c.in-Some._answer
     c.in_ok-alike-2.alike c.loop-answer.since goes (rw (c.core-in-Some.ensures, c.world-in-Some.ensures) at c.in_ok-alike-2.ensures) c.loop-answer.invariant)
 
