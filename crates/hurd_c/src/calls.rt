@@ -48,7 +48,7 @@ fn unanswered(status: u32) -> Answered
 }
 
 /// What is said of a reply, whose bytes are copied as far as there is room. Fails only if memory runs out: then nothing is copied.
-fn answered(
+fn copied_reply(
     alloc: Global,
     reply: Reply<ServerBox>,
     told: usize,
@@ -81,7 +81,7 @@ fn called(
     let Ok(reply) = sitting.call(alloc, listed) else {
         return unanswered(3);
     };
-    match answered(alloc, reply, sitting.told().len(), out) {
+    match copied_reply(alloc, reply, sitting.told().len(), out) {
         Ok(answer) => answer,
         Err(_) => unanswered(3),
     }
