@@ -380,7 +380,7 @@ def line(task: int, call: int, data: bytes = b"", **numbers: int) -> str:
         said = _library.hurd_line(request, data, len(data), out, room)
         length = said.length
     if said.status:
-        _fail(said, "")
+        _fail(said, "", b"")
     return _text_of(ctypes.string_at(out, length))
 
 

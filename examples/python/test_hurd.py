@@ -244,7 +244,9 @@ def test_bad_numbers() -> None:
     with World(FILE) as world:
         world.call(0, hurd.Call.DIR_MKDIR, b"d", port=1, mode=0o755)
         with world.fork() as other:
-            assert other.call(0, hurd.Call.DIR_READDIR, port=1).words == world.call(0, hurd.Call.DIR_READDIR, port=1).words == [b"motd", b"d"]
+            for each in (world, other):
+                root = each.call(0, hurd.Call.DIR_LOOKUP, b"", port=1, flags=1).number
+                assert each.call(0, hurd.Call.DIR_READDIR, port=root).words == [b".", b"..", b"motd", b"d"]
 
 
 def test_lists_in_a_world_of_their_own() -> None:
@@ -544,7 +546,7 @@ def test_a_world_begun_twice() -> None:
 
 def test_each_status_has_its_exception() -> None:
     """Those too that no text brings about here. A world to which memory was refused goes on, but has no forks."""
-    names = {1: hurd.BadText, 2: hurd.Refused, 3: hurd.NoMemory, 4: hurd.NoWorld, 5: hurd.Unknown, 6: hurd.NoKind, 7: hurd.HurdError}
+    names = {1: hurd.BadText, 2: hurd.Refused, 3: hurd.NoMemory, 4: hurd.NoWorld, 5: hurd.Unknown, 6: hurd.NoKind, 7: hurd.NoCall, 8: hurd.HurdError}
     for status, fault in names.items():
         raised = raises(fault, lambda: hurd._fail(hurd._Said(status, 12, 3, 0), "0 io_stat 1\n", b"bob"))
         assert isinstance(raised, hurd.HurdError) and str(raised)
