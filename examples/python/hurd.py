@@ -191,7 +191,10 @@ class Which(enum.IntEnum):
 
 
 class Reply(NamedTuple):
-    """The reply to a call: which it is, its numbers, and its bytes. Numbers that it has no use for are 0. hurd.h says what each means."""
+    """The reply to a call: which it is, its numbers, and its bytes. Numbers that it has no use for are 0. hurd.h says what each means.
+
+    `length` is how many bytes the reply has: more than `data` if there was too little room for them.
+    """
 
     which: Which
     error: int
@@ -204,11 +207,14 @@ class Reply(NamedTuple):
     translators: int
     number: int
     size: int
+    length: int
     data: bytes
 
     @property
     def words(self) -> List[bytes]:
-        """The names or words of the reply. Raises ValueError if one has a zero byte in it, since then nobody knows where it ends."""
+        """The names or words of the reply. Raises ValueError if there was no room for all, or if one has a zero byte in it and so no known end."""
+        if len(self.data) < self.length:
+            raise ValueError(f"there was room for {len(self.data)} of {self.length} bytes")
         words = self.data.split(b"\0")[:-1]
         if len(words) != self.number:
             raise ValueError("a name or word has a zero byte in it")
@@ -363,9 +369,10 @@ def _request(task: int, call: int, numbers: Dict[str, int]) -> _Request:
     return _Request(task=task, call=call, **numbers)
 
 
-def _reply_of(figures: _Figures, data: bytes) -> Reply:
-    """A reply, by its numbers and bytes."""
-    return Reply(Which(figures.which), *(getattr(figures, name) for name in Reply._fields[1:-1]), data)
+def _reply_of(said: _Reply, data: bytes) -> Reply:
+    """A reply, by its numbers and the bytes that there was room for."""
+    numbers = (getattr(said.reply, name) for name, _ in _Figures._fields_[1:])
+    return Reply(Which(said.reply.which), *numbers, said.length, data)
 
 
 def line(task: int, call: int, data: bytes = b"", **numbers: int) -> str:
@@ -434,7 +441,8 @@ class World:
     def call(self, task: int, call: int, data: bytes = b"", room: int = _WORLD_ROOM, **numbers: int) -> Reply:
         r"""Makes one call as numbers and bytes, and returns its reply. `told` is what those learn from it whom `learn` names: nothing of a call of their own.
 
-        `numbers` are those of `hurd_request` in hurd.h that the call needs, and `data` are its bytes. If the reply has more bytes than `room`, only so many are returned.
+        `numbers` are those of `hurd_request` in hurd.h that the call needs, and `data` are its bytes. If the reply has more bytes than `room`, only so many are
+        returned, and its `length` is greater.
 
             world.call(0, hurd.Call.DIR_LOOKUP, b"tmp", port=1, flags=1)
             world.call(0, hurd.Call.IO_READ, port=4, amount=100, offset=-1)
@@ -447,7 +455,7 @@ class World:
         if said.status:
             self._fail(_Said(status=said.status), "")
         # the bytes are taken before anything else may write to the same room
-        reply = _reply_of(said.reply, ctypes.string_at(out, min(said.length, room)))
+        reply = _reply_of(said, ctypes.string_at(out, min(said.length, room)))
         self._told = _text_of(self._rest(0, said.told)) if said.told else ""
         self._steps.append(("_again", (task, call, data, numbers)))
         return reply

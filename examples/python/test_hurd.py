@@ -239,7 +239,7 @@ def test_bad_numbers() -> None:
         assert world.call(0, hurd.Call.IO_WRITE, b"x", port=3, offset=2**24).error == hurd.Error.EFBIG
         raises(hurd.NoCall, lambda: hurd.line(0, hurd.Call.IO_WRITE, whole, port=3, offset=0))
         part = world.call(0, hurd.Call.IO_READ, port=3, amount=65536, offset=256, room=100)
-        assert (part.number, part.data) == (65536, bytes(range(100)))
+        assert (part.number, part.length, part.data) == (65536, 65536, bytes(range(100)))
     raises(hurd.NoWorld, lambda: world.call(0, hurd.Call.IO_STAT, port=3))
     with World(FILE) as world:
         world.call(0, hurd.Call.DIR_MKDIR, b"d", port=1, mode=0o755)
@@ -247,6 +247,11 @@ def test_bad_numbers() -> None:
             for each in (world, other):
                 root = each.call(0, hurd.Call.DIR_LOOKUP, b"", port=1, flags=1).number
                 assert each.call(0, hurd.Call.DIR_READDIR, port=root).words == [b".", b"..", b"motd", b"d"]
+                # the names take 12 bytes: with less room that is said, also where a name ends
+                assert each.call(0, hurd.Call.DIR_READDIR, port=root, room=12).words == [b".", b"..", b"motd", b"d"]
+                short = each.call(0, hurd.Call.DIR_READDIR, port=root, room=10)
+                assert (short.number, short.length, short.data) == (4, 12, b".\0..\0motd\0")
+                raises(ValueError, lambda: short.words)
 
 
 def test_lists_in_a_world_of_their_own() -> None:

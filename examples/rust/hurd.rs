@@ -69,10 +69,11 @@ struct Answer {
     told: usize,
 }
 
-/// The reply to a call: its numbers, and as many of its bytes as were wanted; and what those who are watched learn from the call.
+/// The reply to a call: its numbers, how many bytes it has, and as many of these as were wanted; and what those who are watched learn from the call.
 #[derive(Clone, Debug, PartialEq, Eq)]
 pub struct Reply {
     pub figures: Figures,
+    pub length: usize,
     pub bytes: Vec<u8>,
     pub told: Vec<u8>,
 }
@@ -199,7 +200,7 @@ impl World {
         let mut told = vec![0; answer.told];
         // SAFETY: the same.
         unsafe { hurd_told(&mut self.held, 0, told.as_mut_ptr(), told.len()) };
-        Ok(Reply { figures: answer.reply, bytes: out, told })
+        Ok(Reply { figures: answer.reply, length: answer.length, bytes: out, told })
     }
 
     /// Gives a text to the library, and returns all that it prints. If there was too little room, it asks for the rest.
