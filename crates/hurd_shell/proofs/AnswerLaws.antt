@@ -9,13 +9,13 @@ use Rattle.hurd_machine.specs.declared.call.PlainCall.TheVariants.{StartFailed}
 use Rattle.hurd_world.specs.Noting.{State}
 use Rattle.hurd_shell.specs.declared.fault.Stop.TheVariants.{Refused}
 use Rattle.hurd_shell.specs.declared.entries.EntryWork.{EntryWork}
-use Rattle.hurd_shell.specs.declared.looking.Opening.{Opening}
+use Rattle.hurd_client.specs.declared.opening.Opening.{Opening}
 use Rattle.hurd_shell.specs.declared.stages.Stage.{Stage}
 use Rattle.hurd_shell.specs.declared.stages.Stage.TheVariants as stage
 use Rattle.hurd_shell.specs.declared.stages.Work.{Work}
-use Rattle.hurd_shell.specs.Programs.{Prog, gives, tried, made, set_of, started, started_of, unread}
+use Rattle.hurd_client.specs.Programs.{Prog, gives, tried, made, set_of, started, started_of, unread}
 use Rattle.hurd_shell.specs.Progress.{LeadsTo, DoesAll, stopped}
-use Rattle.hurd_shell.specs.Looking.{start_with}
+use Rattle.hurd_client.specs.Looking.{start_with}
 use Rattle.hurd_shell.specs.Stages.{answer_with, offer_of, read_at}
 use Rattle.hurd_shell.proofs.ProgramLaws.{does_ok, leads_refl, tried_ends}
 

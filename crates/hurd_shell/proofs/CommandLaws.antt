@@ -7,7 +7,7 @@ use Rattle.hurd_machine.specs.declared.call.Call.TheVariants.{Plain}
 use Rattle.hurd_machine.specs.declared.call.PlainCall.TheVariants.{FsysSetOptions, IoRead}
 use Rattle.hurd_world.specs.Noting.{State}
 use Rattle.hurd_trans_iface.specs.Nodes.{has_words}
-use Rattle.hurd_shell.specs.Programs.{Prog, gives, made, data_of, done_of}
+use Rattle.hurd_client.specs.Programs.{Prog, gives, made, data_of, done_of}
 use Rattle.hurd_shell.specs.Commands.{at_cursor, cat_from, cat_read, options, prints, refuses, silent}
 use Rattle.hurd_shell.specs.Progress.{LeadsTo}
 use Rattle.hurd_shell.proofs.ProgramLaws.{leads_refl, tried_ends}

@@ -17,7 +17,7 @@ use Rattle.hurd_laws.proofs.Headline.{isolated}
 use Rattle.hurd_laws.proofs.Together.{together}
 use Rattle.hurd_world.specs.Boot.{first_world}
 use Rattle.hurd_world.proofs.FirstWorld.{first_sound}
-use Rattle.hurd_shell.specs.Programs.{Prog, gives, calls, asks}
+use Rattle.hurd_client.specs.Programs.{Prog, gives, calls, asks}
 use Rattle.hurd_shell.specs.Commands.{program_of}
 use Rattle.hurd_dialogue.specs.Parts.{Part, answers}
 use Rattle.hurd_words.specs.declared.answers.Answer.{Answer}

@@ -16,7 +16,7 @@ use Rattle.hurd_laws.specs.After.{AllLookAlike, LooksLike}
 use Rattle.hurd_laws.proofs.OwnLooks.{own_from_looks}
 use Rattle.hurd_world.specs.Boot.{first_world}
 use Rattle.hurd_world.proofs.FirstWorld.{first_sound}
-use Rattle.hurd_shell.specs.Programs.{Prog, gives, calls, asks}
+use Rattle.hurd_client.specs.Programs.{Prog, gives, calls, asks}
 use Rattle.hurd_shell.specs.Commands.{program_of}
 use Rattle.hurd_shell.specs.Transcript.{Maker, answer_to}
 use Rattle.hurd_shell.specs.Isolation.{calls_in, command_calls, commands_by, result_in, worlds_of}

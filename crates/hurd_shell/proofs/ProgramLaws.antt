@@ -13,7 +13,8 @@ use Rattle.hurd_world.proofs.NotingLaws.{notes_refl, notes_trans}
 use Rattle.hurd_shell.specs.declared.commands.Printed.{Printed}
 use Rattle.hurd_shell.specs.declared.fault.Stop.{Stop}
 use Rattle.hurd_shell.specs.declared.fault.Stop.TheVariants.{Refused, Memory}
-use Rattle.hurd_shell.specs.Programs.{Prog, gives, calls, asks, tried, bind, on_ok, made, closing, go, Pause, unread}
+use Rattle.hurd_client.specs.Programs.{Prog, gives, calls, asks, tried, bind, on_ok, made, closing, unread}
+use Rattle.hurd_shell.specs.Programs.{go, Pause}
 use Rattle.hurd_shell.specs.Progress.{Stepped, LeadsTo, Ends, DoesAll, ReachesTo, Reaches, stopped}
 
 pub leads_refl : {A : Type 0} (t : ℕ) (p : Prog A) (w : State) → LeadsTo t p w p w

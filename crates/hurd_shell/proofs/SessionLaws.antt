@@ -27,7 +27,8 @@ use Rattle.hurd_shell.specs.declared.stages.Stage.TheVariants.{Opens, Enters, Se
 use Rattle.hurd_shell.specs.declared.stages.Waiting.{Waiting}
 use Rattle.hurd_shell.specs.declared.transcript.Turn.{Turn}
 use Rattle.hurd_shell.specs.declared.transcript.Turn.TheVariants.{Told, Waits}
-use Rattle.hurd_shell.specs.Programs.{Pause, Prog, gives, calls, asks, bind, on_ok, go}
+use Rattle.hurd_client.specs.Programs.{Prog, gives, calls, asks, bind, on_ok}
+use Rattle.hurd_shell.specs.Programs.{Pause, go}
 use Rattle.hurd_shell.specs.Progress.{DoesAll, LeadsTo, Reaches, stopped}
 use Rattle.hurd_shell.specs.Stages.{answer_with, progress_on, stage_behind, waiting_on}
 use Rattle.hurd_shell.specs.Session.{Answers, HangsTogether, Takes, Tells, View, command_on, is_failed, left_in, left_of, waits_by}
@@ -132,8 +133,8 @@ unfolding bind
 bind_leads k l = tried_leads (on_ok k) l
 
 behind_leads : {t : ℕ} {w x : State} (stage : Stage) (p q : Prog (Unit {0})) → LeadsTo t p w q x → LeadsTo t (stage_behind stage p) w (stage_behind stage q) x
-behind_leads (Opens o work) p q l = bind_leads _ (held_leads o.held.items (bind_leads _ l))
-behind_leads (Enters port o name work) p q l = tried_leads _ (bind_leads _ (held_leads o.held.items (bind_leads _ l)))
+behind_leads (Opens o work) p q l = bind_leads _ (held_leads o.way.held.items (bind_leads _ l))
+behind_leads (Enters port o name work) p q l = tried_leads _ (bind_leads _ (held_leads o.way.held.items (bind_leads _ l)))
 behind_leads (Sets port setting) p q l = tried_leads _ (bind_leads _ l)
 
 does_leads : {A : Type 0} {t : ℕ} {p : Prog A} {w x : State} (answer : Result A Errno) → DoesAll t p w (stopped answer) x → LeadsTo t p w (gives answer) x

@@ -6,7 +6,8 @@ use Rattle.hurd_world.specs.Noting.{State}
 use Rattle.hurd_machine.specs.Sound.{Sound}
 use Rattle.hurd_laws.specs.Step.{reply_of, after}
 use Rattle.hurd_laws.proofs.Assembled.{stays_sound}
-use Rattle.hurd_shell.specs.Programs.{Pause, Prog, gives, calls, asks, go}
+use Rattle.hurd_client.specs.Programs.{Prog, gives, calls, asks}
+use Rattle.hurd_shell.specs.Programs.{Pause, go}
 use Rattle.hurd_shell.specs.Progress.{DoesAll, LeadsTo, stopped}
 use Rattle.hurd_shell.proofs.ProgramLaws.{go-gives}
 

@@ -13,14 +13,14 @@ use Rattle.hurd_shell.specs.declared.commands.Printed.{Printed}
 use Rattle.hurd_shell.specs.declared.entries.EntryWork.{EntryWork}
 use Rattle.hurd_shell.specs.declared.fault.Stop.{Stop}
 use Rattle.hurd_shell.specs.declared.fault.Stop.TheVariants.{Refused, Memory}
-use Rattle.hurd_shell.specs.declared.looking.Opening.{Opening}
+use Rattle.hurd_client.specs.declared.opening.Opening.{Opening}
 use Rattle.hurd_shell.specs.declared.looking.Reached.TheVariants as reached
 use Rattle.hurd_shell.specs.declared.stages.Progress.{Progress}
 use Rattle.hurd_shell.specs.declared.stages.Progress.TheVariants as progress
 use Rattle.hurd_shell.specs.declared.stages.Stage.TheVariants as stage
 use Rattle.hurd_shell.specs.declared.stages.Work.{Work}
 use Rattle.hurd_shell.specs.declared.stages.Work.TheVariants as work
-use Rattle.hurd_shell.specs.Programs.{Prog, gives, tried, bind, on_ok, made, closing, unread}
+use Rattle.hurd_client.specs.Programs.{Prog, gives, tried, bind, on_ok, made, closing, unread}
 use Rattle.hurd_shell.specs.Commands.{prints, program_of, set, setting_with, silent}
 use Rattle.hurd_shell.specs.Progress.{DoesAll, ReachesTo, Reaches}
 use Rattle.hurd_shell.specs.Stages.{entry_work_of, progress_on, reached_on, work_of}

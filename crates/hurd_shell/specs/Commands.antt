@@ -20,8 +20,9 @@ use Rattle.hurd_script.specs.declared.command.Action.TheVariants.{Cat, Ls, Stat,
 use Rattle.hurd_script.specs.declared.places.EntryPlace.{EntryPlace}
 use Rattle.hurd_script.specs.declared.settrans.SettransFlags.{SettransFlags}
 use Rattle.hurd_shell.specs.declared.commands.Printed.{Printed}
-use Rattle.hurd_shell.specs.Looking.{open_node}
-use Rattle.hurd_shell.specs.Programs.{Prog, gives, asks, tried, bind, made, closing, data_of, names_of, port_of, stat_of, words_of, done_of, set_of}
+use Rattle.hurd_client.specs.Looking.{open_node}
+use Rattle.hurd_client.specs.declared.opening.OpenHow.{OpenHow}
+use Rattle.hurd_client.specs.Programs.{Prog, gives, asks, tried, bind, made, closing, data_of, names_of, port_of, stat_of, words_of, done_of, set_of}
 use Rattle.hurd_words.specs.Printing.{stat_line, words_line}
 use Rattle.hurd_words.specs.declared.answers.Content.TheVariants.{Text, Names}
 use Rattle.hurd_words.specs.declared.answers.Ending.TheVariants as ending
@@ -38,9 +39,21 @@ at_cursor = negsuc 0
 abbrev pub most_reads : ℕ
 most_reads = 16
 
+-- the port of a task's working directory
+abbrev pub directory_port : ℕ
+directory_port = 2
+
+-- how a command opens a node: what it makes has mode 0o644
+abbrev pub how : OpenFlags → OpenHow
+how flags = record { flags = flags; mode = record { 0 = 420 } }
+
+-- what a path leads to is opened, from the working directory if it doesn't begin with a slash
+abbrev pub open_path : List ℕ → OpenFlags → Prog ℕ
+open_path path flags = open_node directory_port path (how flags)
+
 -- a node is opened, worked on, and given up
 abbrev pub with_open : List ℕ → OpenFlags → (ℕ → Prog Printed) → Prog Printed
-with_open path flags k = bind (open_node path flags) (λ p. closing p (k p))
+with_open path flags k = bind (open_path path flags) (λ p. closing p (k p))
 
 -- this text is put out, and the command is done
 abbrev pub prints : List ℕ → Printed

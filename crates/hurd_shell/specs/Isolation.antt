@@ -13,7 +13,7 @@ use Rattle.hurd_script.specs.Script.{users_of, commands_of}
 use Rattle.hurd_laws.specs.Step.{reply_of, after}
 use Rattle.hurd_laws.specs.Runs.{TaskCall, run, own_worlds, SameViews, Quiet}
 use Rattle.hurd_world.specs.Boot.{first_world}
-use Rattle.hurd_shell.specs.Programs.{Prog, gives, calls, asks}
+use Rattle.hurd_client.specs.Programs.{Prog, gives, calls, asks}
 use Rattle.hurd_shell.specs.Commands.{program_of}
 use Rattle.hurd_shell.specs.Transcript.{Maker, dialogue, dialogue_of, answer_to, parts_by}
 

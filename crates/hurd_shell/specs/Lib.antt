@@ -1,5 +1,4 @@
 pub mod Programs
-pub mod Looking
 pub mod Commands
 pub mod Transcript
 pub mod Progress

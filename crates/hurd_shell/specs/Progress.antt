@@ -1,7 +1,6 @@
 -- What the code does of a program.
-use Rattle.std.specs.Prelude.{◌≡◌, ℕ, List, [], ◌∷◌, Result, Ok, Err}
+use Rattle.std.specs.Prelude.{◌≡◌, ℕ, Result, Ok, Err}
 use Rattle.hurd_creds.specs.declared.errno.Errno.{Errno}
-use Rattle.hurd_creds.specs.declared.open_flags.OpenFlags.{OpenFlags}
 use Rattle.hurd_trans_iface.specs.Meaning.{Meaning}
 use Rattle.hurd_machine.specs.Calls.{Call, Reply}
 use Rattle.hurd_laws.specs.Step.{step}
@@ -9,13 +8,8 @@ use Rattle.hurd_world.specs.Held.{Whole, state_of}
 use Rattle.hurd_world.specs.Noting.{State, NotesWhatIsTouched}
 use Rattle.hurd_shell.specs.declared.fault.Stop.{Stop}
 use Rattle.hurd_shell.specs.declared.fault.Stop.TheVariants.{Refused, Memory}
-use Rattle.hurd_shell.specs.declared.looking.TurnEnd.{TurnEnd}
-use Rattle.hurd_shell.specs.declared.looking.TurnEnd.TheVariants as turn
-use Rattle.hurd_shell.specs.declared.looking.LookingEnd.{LookingEnd}
-use Rattle.hurd_shell.specs.declared.looking.LookingEnd.TheVariants as ending
-use Rattle.hurd_shell.specs.declared.looking.Target.{Target}
-use Rattle.hurd_shell.specs.Programs.{Prog, gives, closing, go}
-use Rattle.hurd_shell.specs.Looking.{Opener, look, starting}
+use Rattle.hurd_client.specs.Programs.{Prog, gives}
+use Rattle.hurd_shell.specs.Programs.{go}
 
 -- a call of task t was told the machine's reply, and left its world; what is noted stays right
 pub record Stepped (w : State) (t : ℕ) (c : Call) (r : Reply) (x : State) : Type 0 where
@@ -45,40 +39,6 @@ pub record DoesAll {A : Type 0} (t : ℕ) (p : Prog A) (w : State) (r : Result A
 -- the same of the worlds that the code holds
 abbrev pub Ran : {S A : Type 0} → (S → Meaning) → ℕ → Prog A → Whole S → Result A Stop → Whole S → Type 0
 Ran f t p old r new = DoesAll t p (state_of f old) r (state_of f new)
-
--- a program, and after its end these ports are given up, the last first
-unfoldable pub releasing : List ℕ → Prog ℕ → Prog ℕ
-releasing [] p = p
-releasing (q ∷ qs) p = closing q (releasing qs p)
-
--- opening a target
-abbrev pub opening : Opener → Target → Prog ℕ
-opening opener target = opener target.dir target.name
-
--- what is left of an opening after a turn
-abbrev pub opening_on : Opener → TurnEnd → Prog ℕ
-opening_on opener (turn.Opened p) = gives (Ok p)
-opening_on opener (turn.Onward target) = opening opener target
-opening_on opener (turn.Starts words target) = starting (opening opener target) words
-
--- what is left of an opening that has found its node, or a translator that is to be started
-abbrev pub found_on : OpenFlags → LookingEnd → Prog ℕ
-found_on flags (ending.Opened p) = gives (Ok p)
-found_on flags (ending.Starts words left target) = starting (opening (look left flags) target) words
-
--- where a program of task t comes to, with ports to give up: to what is left where the code goes on, or to a refusal
-abbrev pub ComesTo : {B : Type 0} → ℕ → Prog ℕ → State → (B → Prog ℕ) → List ℕ → Result B Stop → State → Type 0
-ComesTo t p w left held (Ok b) x = LeadsTo t p w (releasing held (left b)) x
-ComesTo t p w left held (Err (Refused e)) x = LeadsTo t p w (releasing held (gives (Err e))) x
-ComesTo t p w left held (Err Memory) x = Unit {0}
-
--- task t went on from the program p in w, and holds ports in x
-pub record Comes {B : Type 0} (t : ℕ) (p : Prog ℕ) (w : State) (left : B → Prog ℕ) (held : List ℕ) (r : Result B Stop) (x : State) : Type 0 where
-  pub comes : ComesTo t p w left held r x
-
--- the same of the worlds that the code holds, where it held ports before
-abbrev pub Went : {S B : Type 0} → (S → Meaning) → ℕ → List ℕ → Prog ℕ → Whole S → (B → Prog ℕ) → List ℕ → Result B Stop → Whole S → Type 0
-Went f t before p old left held r new = Comes t (releasing before p) (state_of f old) left held r (state_of f new)
 
 -- where a program of task t comes to: to what is left where the code goes on, or to a refusal
 abbrev pub ReachesTo : {A B : Type 0} → ℕ → Prog A → State → (B → Prog A) → Result B Stop → State → Type 0

@@ -12,7 +12,7 @@ use Rattle.hurd_script.specs.Script.{bad, commands_of, users_of}
 use Rattle.hurd_world.specs.Boot.{boot_of, first_world}
 use Rattle.hurd_world.specs.Held.{Whole, coded_whole, world_of}
 use Rattle.hurd_script.specs.Actions.{action_of}
-use Rattle.hurd_shell.specs.Programs.{Prog, gives}
+use Rattle.hurd_client.specs.Programs.{Prog, gives}
 use Rattle.hurd_shell.specs.Commands.{prints, program_of}
 use Rattle.hurd_shell.specs.Stages.{answered_on, waiting_on}
 use Rattle.hurd_shell.specs.Transcript.{Dialogue, ends, tells, wants, dialogue, part_by, answer_to, played, AsksFor}

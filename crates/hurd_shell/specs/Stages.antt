@@ -11,7 +11,7 @@ use Rattle.hurd_shell.specs.declared.commands.NodeWork.{NodeWork}
 use Rattle.hurd_shell.specs.declared.commands.NodeWork.TheVariants as node
 use Rattle.hurd_shell.specs.declared.entries.EntryWork.{EntryWork}
 use Rattle.hurd_shell.specs.declared.entries.EntryWork.TheVariants as entry
-use Rattle.hurd_shell.specs.declared.looking.Opening.{Opening}
+use Rattle.hurd_client.specs.declared.opening.Opening.{Opening}
 use Rattle.hurd_shell.specs.declared.looking.Reached.{Reached}
 use Rattle.hurd_shell.specs.declared.looking.Reached.TheVariants as reached
 use Rattle.hurd_shell.specs.declared.stages.Progress.{Progress}
@@ -21,10 +21,10 @@ use Rattle.hurd_shell.specs.declared.stages.Stage.TheVariants as stage
 use Rattle.hurd_shell.specs.declared.stages.Waiting.{Waiting}
 use Rattle.hurd_shell.specs.declared.stages.Work.{Work}
 use Rattle.hurd_shell.specs.declared.stages.Work.TheVariants as work
-use Rattle.hurd_shell.specs.Programs.{Prog, gives, asks, bind, made, closing, done_of, started}
-use Rattle.hurd_shell.specs.Looking.{look, start_with}
+use Rattle.hurd_client.specs.Programs.{Prog, gives, asks, bind, made, closing, done_of, started}
+use Rattle.hurd_client.specs.Looking.{start_with}
+use Rattle.hurd_client.specs.Openings.{opening_after}
 use Rattle.hurd_shell.specs.Commands.{cat, ls, stat, put, chmod, chown, showtrans, fsysopts, mkdir, rm, rmdir, in_place, setting_with, set_with, silent}
-use Rattle.hurd_shell.specs.Progress.{releasing}
 
 -- the program of what a command does with its open node, where it stops for nothing
 abbrev pub node_work_of : NodeWork → ℕ → Prog Printed
@@ -55,19 +55,15 @@ work_of (work.Node deed) p = node_work_of deed p
 work_of (work.Entry deed place) p = in_place place (entry_work_of deed p)
 work_of (work.Set setting words active) p = silent (setting_with (active && has_words words) p setting words)
 
--- an opening that goes on once this program gives no refusal
-abbrev pub opening_behind : Opening → Prog (Unit {0}) → Prog ℕ
-opening_behind o p = releasing o.held.items (bind p (λ u. look o.left o.flags o.target.dir o.target.name))
-
 -- what is left of an opening that came to its node, or waits for a server
 abbrev pub reached_on : Reached → Prog ℕ
 reached_on (reached.Opened p) = gives (Ok p)
-reached_on (reached.Waits words o) = asks words (λ server. opening_behind o (start_with server))
+reached_on (reached.Waits words o) = asks words (λ server. opening_after o (start_with server))
 
 -- a command that goes on from a stage once this program gives no refusal
 abbrev pub stage_behind : Stage → Prog (Unit {0}) → Prog Printed
-stage_behind (stage.Opens o at_node) p = bind (opening_behind o p) (λ q. closing q (work_of at_node q))
-stage_behind (stage.Enters port o name at_entry) p = closing port (bind (opening_behind o p) (λ q. closing q (entry_work_of at_entry port q name)))
+stage_behind (stage.Opens o at_node) p = bind (opening_after o p) (λ q. closing q (work_of at_node q))
+stage_behind (stage.Enters port o name at_entry) p = closing port (bind (opening_after o p) (λ q. closing q (entry_work_of at_entry port q name)))
 stage_behind (stage.Sets port setting) p = closing port (silent p)
 
 -- what is done at a stage with the server that was asked for

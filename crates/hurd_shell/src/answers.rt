@@ -4,13 +4,13 @@ ghost use Rattle.hurd_trans_iface.specs.Meaning.{Begins};
 ghost use Rattle.hurd_machine.specs.Calls.{call_by};
 ghost use Rattle.hurd_machine.specs.Sound.{Sound};
 ghost use Rattle.hurd_world.specs.Held.{world_of};
-ghost use Rattle.hurd_shell.specs.Programs.{is_busy, started};
 ghost use Rattle.hurd_shell.specs.Progress.{Ran, stopped};
 ghost use Rattle.hurd_shell.specs.Stages.{answer_with, offer_of, read_at};
 
 use crate::calls::{offered, start_failed};
 use crate::fault::NoMemory;
 use crate::stages::{KeptStage, Stage, Waiting};
+use hurd_client::started;
 use hurd_creds::{Errno, TaskId};
 use hurd_trans_iface::{Server, Words};
 use hurd_world::{Call, World};
@@ -28,16 +28,6 @@ fn offer<S>(stage: &Stage, words: Words, server: S) -> Call<S>
             server: Some(server),
         },
         Stage::Opens { .. } | Stage::Enters { .. } => Call::FsysStartup { server },
-    }
-}
-
-/// A start that another was quicker with is as good as one's own.
-fn started(answer: Result<(), Errno>) -> Result<(), Errno>
-    ensures { result ≡ started answer }
-{
-    match answer {
-        Err(Errno::EBUSY) => Ok(()),
-        answer => answer,
     }
 }
 

@@ -1,34 +1,29 @@
 //! Calls that a command makes, and what it reads of their replies.
 ghost use Rattle.std.specs.Prelude.{◌≡◌, IfOk, IfErr, Ok, None, Some, IsSome};
-ghost use Rattle.hurd_creds.specs.declared.open_flags.OpenFlags.{OpenFlags};
 ghost use Rattle.hurd_creds.specs.Limits.{most_read};
 ghost use Rattle.hurd_machine.specs.Calls.{BringsBegun, box_in, call_by, refusal, reply_by};
 ghost use Rattle.hurd_laws.specs.Called.{Lacks};
 ghost use Rattle.hurd_world.specs.Held.{state_of, world_of};
-ghost use Rattle.hurd_shell.specs.Programs.{made, data_of, done_of, names_of, port_of, set_of, stat_of, unread, words_of};
+ghost use Rattle.hurd_client.specs.Programs.{made, data_of, done_of, names_of, port_of, set_of, stat_of, unread, words_of};
 ghost use Rattle.hurd_shell.specs.Commands.{at_cursor, directory_mode};
-ghost use Rattle.hurd_shell.specs.Looking.{file_mode, looked_of, looking};
 ghost use Rattle.hurd_shell.specs.Progress.{Ran, Stepped, stopped};
 
 use crate::fault::{NoMemory, Stop};
-use crate::looking::{LookupAnswer, NextLookup};
-use hurd_creds::{Bytes, Errno, MOST_READ, Mode, OpenFlags, Stat, TaskId};
+use hurd_client::{port_of, set_of};
+use hurd_creds::{Bytes, Errno, MOST_READ, Mode, Stat, TaskId};
 use hurd_machine::Setting;
 use hurd_trans_iface::{Names, Server, Words};
-use hurd_world::{Call, Lookup, PlainCall, Reply, RetryKind, World};
+use hurd_world::{Call, PlainCall, Reply, World};
 use std::alloc::Global;
 
 /// The offset that stands for the cursor.
 const AT_CURSOR: i64 = -1;
 
-/// The mode of a file that a command makes.
-const FILE_MODE: u32 = 0o644;
-
 /// The mode of a directory that a command makes.
 const DIRECTORY_MODE: u32 = 0o755;
 
 /// Makes a call of a task. Where memory was refused, a server that the call brought is dropped.
-fn made<S: Server>(
+pub(crate) fn made<S: Server>(
     world: &mut World<S>,
     alloc: Global,
     task: TaskId,
@@ -45,68 +40,6 @@ fn made<S: Server>(
         return Err(NoMemory);
     }
     Ok(reply)
-}
-
-/// A retry, which has a port unless it is magical.
-fn retry_of(kind: RetryKind, name: Bytes, port: Option<u64>) -> Result<LookupAnswer, Stop>
-    ensures { result ≡ stopped (looked_of (Reply.Found (Lookup.Retry kind name port))) }
-{
-    match (kind, port) {
-        (RetryKind::Normal, Some(port)) => Ok(LookupAnswer::Retried(NextLookup::Normal {
-            name,
-            port,
-        })),
-        (RetryKind::Reauth, Some(port)) => Ok(LookupAnswer::Retried(NextLookup::Reauth {
-            name,
-            port,
-        })),
-        (RetryKind::Magical, None) => Ok(LookupAnswer::Retried(NextLookup::Magical { name })),
-        (RetryKind::Normal, None) | (RetryKind::Reauth, None) | (RetryKind::Magical, Some(_)) => {
-            Err(Stop::Refused(Errno::EIO))
-        }
-    }
-}
-
-/// What a lookup was answered.
-fn looked_of<S: Server>(reply: Reply<S>) -> Result<LookupAnswer, Stop>
-    ensures { result ≡ stopped (looked_of (reply_by S.meaning reply)) }
-{
-    match reply {
-        Reply::Found(Lookup::Done(port)) => Ok(LookupAnswer::Opened(port)),
-        Reply::Found(Lookup::Retry { kind, name, port }) => retry_of(kind, name, port),
-        Reply::Found(Lookup::Start { words }) => Ok(LookupAnswer::Started(words)),
-        Reply::Refused(errno) => Err(Stop::Refused(errno)),
-        Reply::Done
-        | Reply::Port(_)
-        | Reply::Data(_)
-        | Reply::Count(_)
-        | Reply::Names(_)
-        | Reply::Stat(_)
-        | Reply::Words(_)
-        | Reply::Modes(_)
-        | Reply::Same(_)
-        | Reply::Back(_, _) => Err(Stop::Refused(Errno::EIO)),
-    }
-}
-
-/// The port that was made of another.
-fn port_of<S: Server>(reply: Reply<S>) -> Result<u64, Stop>
-    ensures { result ≡ stopped (port_of (reply_by S.meaning reply)) }
-{
-    match reply {
-        Reply::Port(port) => Ok(port),
-        Reply::Refused(errno) => Err(Stop::Refused(errno)),
-        Reply::Done
-        | Reply::Found(_)
-        | Reply::Data(_)
-        | Reply::Count(_)
-        | Reply::Names(_)
-        | Reply::Stat(_)
-        | Reply::Words(_)
-        | Reply::Modes(_)
-        | Reply::Same(_)
-        | Reply::Back(_, _) => Err(Stop::Refused(Errno::EIO)),
-    }
 }
 
 /// The bytes that a read gave.
@@ -189,25 +122,6 @@ fn words_of<S: Server>(reply: Reply<S>) -> Result<Words, Stop>
     }
 }
 
-/// Whether a translator was set; a server that comes back is dropped.
-fn set_of<S: Server>(reply: Reply<S>) -> Result<(), Stop>
-    ensures { result ≡ stopped (set_of (reply_by S.meaning reply)) }
-{
-    match reply {
-        Reply::Done => Ok(()),
-        Reply::Refused(errno) | Reply::Back(errno, _) => Err(Stop::Refused(errno)),
-        Reply::Found(_)
-        | Reply::Port(_)
-        | Reply::Data(_)
-        | Reply::Count(_)
-        | Reply::Names(_)
-        | Reply::Stat(_)
-        | Reply::Words(_)
-        | Reply::Modes(_)
-        | Reply::Same(_) => Err(Stop::Refused(Errno::EIO)),
-    }
-}
-
 /// Whether a change was made.
 fn done_of<S: Server>(reply: Reply<S>) -> Result<(), Stop>
     ensures { result ≡ stopped (done_of (reply_by S.meaning reply)) }
@@ -225,13 +139,6 @@ fn done_of<S: Server>(reply: Reply<S>) -> Result<(), Stop>
         | Reply::Same(_)
         | Reply::Back(_, _) => Err(Stop::Refused(Errno::EIO)),
     }
-}
-
-/// The mode of a file that a command makes.
-fn file_mode() -> Mode
-    ensures { result ≡ file_mode }
-{
-    Mode::from_bits_truncate(FILE_MODE)
 }
 
 /// The mode of a directory that a command makes.
@@ -257,39 +164,6 @@ pub(crate) fn deallocate<S: Server>(
         Call::Plain(PlainCall::PortDeallocate { port }),
     )?;
     Ok(())
-}
-
-/// Looks a path up, once.
-pub(crate) fn look_up<S: Server>(
-    world: &mut World<S>,
-    alloc: Global,
-    task: TaskId,
-    dir: u64,
-    path: Bytes,
-    flags: OpenFlags,
-) -> Result<LookupAnswer, Stop>
-    ensures { Ran S.meaning task.0 (looking flags dir path) world.old result world.new }
-{
-    let call = Call::Plain(PlainCall::DirLookup {
-        dir,
-        path,
-        flags,
-        mode: file_mode(),
-    });
-    looked_of(made(world, alloc, task, call)?)
-}
-
-/// Makes another port like this one, with the task's ids.
-pub(crate) fn reauthenticate<S: Server>(
-    world: &mut World<S>,
-    alloc: Global,
-    task: TaskId,
-    port: u64,
-) -> Result<u64, Stop>
-    ensures { Ran S.meaning task.0 (made (Call.Plain (PlainCall.IoReauthenticate port)) port_of) world.old result world.new }
-{
-    let call = Call::Plain(PlainCall::IoReauthenticate { port });
-    port_of(made(world, alloc, task, call)?)
 }
 
 /// Reads a file from the cursor on.
@@ -495,7 +369,7 @@ pub(crate) fn control<S: Server>(
     ensures { Ran S.meaning task.0 (made (Call.Plain (PlainCall.FileGetcontrol port)) port_of) world.old result world.new }
 {
     let call = Call::Plain(PlainCall::FileGetcontrol { port });
-    port_of(made(world, alloc, task, call)?)
+    Ok(port_of(made(world, alloc, task, call)?)?)
 }
 
 /// The program and the words of a server.
@@ -542,7 +416,7 @@ pub(crate) fn set<S: Server>(
         words,
         server: None,
     };
-    set_of(made(world, alloc, task, call)?)
+    Ok(set_of(made(world, alloc, task, call)?)?)
 }
 
 /// Gives up what was to be started.

@@ -3,7 +3,7 @@ ghost use Rattle.std.specs.Prelude.{◌≡◌, ◌++◌, ◌∷◌, [], List, �
 ghost use Rattle.hurd_machine.specs.declared.call.Call.TheVariants as Call;
 ghost use Rattle.hurd_machine.specs.declared.call.PlainCall.TheVariants as PlainCall;
 ghost use Rattle.hurd_shell.specs.Commands as written;
-ghost use Rattle.hurd_shell.specs.Programs.{done_of, made};
+ghost use Rattle.hurd_client.specs.Programs.{done_of, made};
 ghost use Rattle.hurd_shell.specs.Progress.{Ran};
 ghost use Rattle.hurd_shell.specs.Stages.{node_work_of};
 

@@ -33,6 +33,17 @@ impl From<AllocError> for Stop {
     }
 }
 
+impl From<Errno> for Stop {
+    ghost use Rattle.std.specs.Prelude.{◌≡◌};
+    ghost use Rattle.hurd_shell.specs.declared.fault.Stop.TheVariants.{Refused};
+
+    ghost from_gives = { λ errno e. e ≡ Refused errno };
+
+    fn from(errno: Errno) -> Stop {
+        Stop::Refused(errno)
+    }
+}
+
 impl From<NoMemory> for Stop {
     ghost use Rattle.std.specs.Prelude.{◌≡◌};
     ghost use Rattle.hurd_shell.specs.declared.fault.Stop.TheVariants.{Memory};

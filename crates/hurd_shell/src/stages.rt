@@ -3,7 +3,7 @@ ghost use Rattle.std.specs.Prelude.{◌≡◌, None, Err, IfOk};
 ghost use Rattle.hurd_creds.specs.declared.errno.Errno.{Errno};
 ghost use Rattle.hurd_script.specs.Actions.{action_of};
 ghost use Rattle.hurd_shell.specs.Commands as written;
-ghost use Rattle.hurd_shell.specs.Programs.{bind, closing, gives};
+ghost use Rattle.hurd_client.specs.Programs.{bind, closing, gives};
 ghost use Rattle.hurd_shell.specs.Progress.{Arrived};
 ghost use Rattle.hurd_shell.specs.Stages.{answered_on, entry_work_of, progress_on, reached_on, work_of};
 
@@ -12,7 +12,8 @@ use crate::commands::{NodeWork, Printed, misused, prints, work_on};
 use crate::entries::{EntryWork, work_at};
 use crate::fault::Stop;
 use crate::flags::{setting_of, to_change, to_control, to_enter, to_list, to_set, to_write};
-use crate::looking::{Opening, Reached, go_on_with, open};
+use crate::looking::{Reached, go_on_with, open};
+use hurd_client::Opening;
 use hurd_creds::{Bytes, Errno, OpenFlags, TaskId};
 use hurd_machine::Setting;
 use hurd_script::{Action, Command, EntryPlace};

@@ -3,7 +3,7 @@ use Rattle.hurd_machine.specs.Calls.{call_by}
 use Rattle.hurd_laws.proofs.Served.{called_lacks}
 use Rattle.hurd_machine.specs.declared.call.Reply.TheVariants.{Back}
 use Rattle.hurd_world.specs.Held.{world_of}
-use Rattle.hurd_shell.specs.Programs.{set_of}
+use Rattle.hurd_client.specs.Programs.{set_of}
 use Rattle.hurd_shell.proofs.ReplyLaws.{called_does, refused_does, other_does}
 use Rattle.hurd_shell.proofs.calls.offered.Goals as goal
 

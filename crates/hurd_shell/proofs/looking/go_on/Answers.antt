@@ -1,18 +1,16 @@
-use Rattle.hurd_shell.proofs.LookLaws.{behind_done, node_reached, server_awaited, stop_reached}
-use Rattle.hurd_shell.proofs.ProgramLaws.{leads_reaches}
+use Rattle.hurd_shell.proofs.LookLaws.{stopped_inside}
+use Rattle.hurd_shell.proofs.ProgramLaws.{leads_reaches, leads_trans}
 use Rattle.hurd_shell.proofs.looking.go_on.Goals as goal
 
-pub returns-in_ok-give_up-in-Ok-Opened : goal.returns-in_ok-give_up-in-Ok-Opened
-returns-in_ok-give_up-in-Ok-Opened g c =
-    let went = rw (c.in-Ok-Opened.is, c.in-Ok-Opened.field-0-is) at c.look.ensures in
-    leads_reaches (behind_done c.args.opening) (node_reached _ _ went.comes c.in_ok-give_up-in-Ok-Opened.ensures)
+pub returns-in_err-next-in-Call : goal.returns-in_err-next-in-Call
+returns-in_err-next-in-Call g c = leads_reaches c.turns.invariant (stopped_inside c.from_residual-in_err-next-in-Call.ensures c.in_err-next-in-Call.ensures.comes)
 
-pub returns-in-Ok-Starts : goal.returns-in-Ok-Starts
-returns-in-Ok-Starts g c =
-    let went = rw (c.in-Ok-Starts.is, c.in-Ok-Starts.field-0-is) at c.look.ensures in
-    leads_reaches (behind_done c.args.opening) (server_awaited _ _ went.comes)
+pub turns-preserved : goal.turns-preserved
+turns-preserved g c =
+    let turned = rw c.in-Onward.is at c.in_ok-next-in-Call.ensures.comes in
+    leads_trans c.turns.invariant turned.reaches
 
-pub returns-in_ok-give_up-in-Err : goal.returns-in_ok-give_up-in-Err
-returns-in_ok-give_up-in-Err g c =
-    let went = rw c.in-Err.is at c.look.ensures in
-    leads_reaches (behind_done c.args.opening) (stop_reached went c.in_ok-give_up-in-Err.ensures)
+pub returns-in-Starts : goal.returns-in-Starts
+returns-in-Starts g c =
+    let turned = rw c.in-Starts.is at c.in_ok-next-in-Call.ensures.comes in
+    leads_reaches c.turns.invariant (record { reaches = turned.reaches })

@@ -1,0 +1,3 @@
+pub mod Programs
+pub mod Looking
+pub mod Openings
