@@ -10,7 +10,7 @@ use Rattle.hurd_numbers.specs.declared.calls.Numbers.{Numbers}
 use Rattle.hurd_sitting.specs.Kept.{learners_in, told_in, world_in}
 use Rattle.hurd_sitting.specs.Replies.{Replies}
 use Rattle.hurd_sitting.specs.declared.sitting.Sitting.{Sitting}
-use Rattle.hurd_c.specs.Ends.{over, said_of}
+use Rattle.hurd_c.specs.Ends.{over, said_of, status_only}
 use Rattle.hurd_c.specs.declared.calls.Answered.{Answered}
 use Rattle.hurd_c.specs.declared.said.Said.{Said}
 
@@ -46,15 +46,11 @@ abbrev pub CalledIn : Option Listed → Sitting → Answered → Sitting → Lis
 CalledIn None old answer new before after = IsNoCall old answer new before after
 CalledIn (Some c) old answer new before after = IsAnswered c old answer new before after ⊎ LacksMemory c old answer new before after
 
--- what is said where numbers and bytes have no line
-abbrev pub lineless : ℕ → Said
-lineless status = record { status = status; error = 0; line = 0; length = 0 }
-
 -- the line that makes the call of numbers and bytes is copied as far as there is room; or nothing is, and it is said why
 abbrev pub Lined : Numbers → List ℕ → Said → List ℕ → List ℕ → Type 0
 Lined n bytes said before after =
     ((line : List ℕ) × IsLineOf n bytes line × (said ≡ said_of (Ok tt) (length line)) × (after ≡ over line before))
-    ⊎ (((said ≡ lineless 7) ⊎ (said ≡ lineless 3)) × (after ≡ before))
+    ⊎ (((said ≡ status_only 7) ⊎ (said ≡ status_only 3)) × (after ≡ before))
 
 -- the same of what C keeps: where there is no world, nothing is made or copied, and there is none afterwards
 abbrev pub CalledOf : Numbers → List ℕ → Option Sitting → Answered → Option Sitting → List ℕ → List ℕ → Type 0

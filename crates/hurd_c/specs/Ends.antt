@@ -21,9 +21,13 @@ said_of (Err (Boot e)) n = record { status = 2; error = number_of e; line = 0; l
 said_of (Err Unknown) n = record { status = 5; error = 0; line = 0; length = n }
 said_of (Err _) n = record { status = 3; error = 0; line = 0; length = n }
 
--- what is said where there is no world
+-- what is said by a status alone
+abbrev pub status_only : ℕ → Said
+status_only status = record { status = status; error = 0; line = 0; length = 0 }
+
+-- what is said if there is no world
 abbrev pub unmade : Said
-unmade = record { status = 4; error = 0; line = 0; length = 0 }
+unmade = status_only 4
 
 -- what the last text told, where there is a world
 abbrev pub told_of : Option Sitting → List ℕ

@@ -7,12 +7,12 @@ use Rattle.hurd_terminal.specs.Runs.{Program}
 use Rattle.hurd_terminal.specs.declared.fault.Fault.{Fault}
 use Rattle.hurd_terminal.specs.declared.fault.Fault.TheVariants.{Unknown, Memory}
 use Rattle.hurd_program.specs.Answers.{Tells}
-use Rattle.hurd_c.specs.Ends.{over, said_of}
+use Rattle.hurd_c.specs.Ends.{over, said_of, status_only}
 use Rattle.hurd_c.specs.declared.said.Said.{Said}
 
--- what is said where there is no such sort of texts
+-- what is said if there is no such sort of texts
 abbrev pub unsorted : Said
-unsorted = record { status = 6; error = 0; line = 0; length = 0 }
+unsorted = status_only 6
 
 -- the sort of texts of a number
 abbrev pub sort_at : ℕ → Option Sort

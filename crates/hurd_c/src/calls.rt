@@ -6,12 +6,12 @@ ghost use Rattle.hurd_machine.specs.Calls.{reply_by};
 ghost use Rattle.hurd_numbers.specs.Calls.{numbered};
 ghost use Rattle.hurd_numbers.specs.Figures.{plain, reply_bytes};
 ghost use Rattle.hurd_sitting.specs.Kept.{SameWatch};
-ghost use Rattle.hurd_c.specs.Calls.{CalledIn, CalledOf, Lined, answered, lineless, unanswered};
+ghost use Rattle.hurd_c.specs.Calls.{CalledIn, CalledOf, Lined, answered, unanswered};
 ghost use Rattle.hurd_c.specs.Ends.{KeepsWatch, over};
 
 use crate::exports::copied;
 use crate::handle::Handle;
-use crate::said::{Said, ending};
+use crate::said::{Said, ending, status_only};
 use hurd_kinds::ServerBox;
 use hurd_lists::ListedCall;
 use hurd_machine::Reply;
@@ -36,7 +36,7 @@ pub struct Answered {
 }
 
 /// What is said where there is no reply.
-fn unanswered(status: u32) -> Answered
+pub(crate) fn unanswered(status: u32) -> Answered
     ensures { result ≡ unanswered status }
 {
     Answered {
@@ -128,18 +128,6 @@ pub extern "C" fn hurd_call(
     }
 }
 
-/// What is said where numbers and bytes have no line.
-fn lineless(status: u32) -> Said
-    ensures { result ≡ lineless status }
-{
-    Said {
-        status,
-        error: 0,
-        line: 0,
-        length: 0,
-    }
-}
-
 /// Copies the line of a list that makes the call of these numbers and bytes, without a newline, as far as there is room. There is none if they make no call, or if
 /// it is longer than a list may be.
 #[unsafe(no_mangle)]
@@ -151,7 +139,7 @@ pub extern "C" fn hurd_line(alloc: Global, numbers: &Numbers, bytes: &[u8], out:
             copied(line.as_slice(), 0, out);
             ending(Ok(()), line.len())
         }
-        Err(ReadFault::Bad) => lineless(7),
-        Err(ReadFault::Memory) => lineless(3),
+        Err(ReadFault::Bad) => status_only(7),
+        Err(ReadFault::Memory) => status_only(3),
     }
 }

@@ -4,7 +4,7 @@ ghost use Rattle.hurd_sitting.specs.Kept.{SameWatch, told_in};
 ghost use Rattle.hurd_c.specs.Ends.{Began, BegunWith, KeepsWatch, Made, MadeIn, Watched, WatchedIn, over, told_of};
 
 use crate::handle::Handle;
-use crate::said::{Said, ending, no_world};
+use crate::said::{Said, ending, status_only};
 use hurd_sitting::Sitting;
 use std::alloc::Global;
 use std::mem::replace;
@@ -65,7 +65,7 @@ pub extern "C" fn hurd_make(alloc: Global, world: &mut Handle, calls: &[u8], out
             *world = Handle::of(sitting);
             said
         }
-        None => no_world(),
+        None => status_only(4),
     }
 }
 
@@ -90,7 +90,7 @@ pub extern "C" fn hurd_watch(alloc: Global, world: &mut Handle, who: &[u8]) -> S
             *world = Handle::of(sitting);
             said
         }
-        None => no_world(),
+        None => status_only(4),
     }
 }
 

@@ -1,7 +1,6 @@
 //! How a call of the library ended.
 ghost use Rattle.std.specs.Prelude.{◌≡◌};
-ghost use Rattle.hurd_c.specs.Ends.{said_of, unmade};
-ghost use Rattle.hurd_c.specs.Texts.{unsorted};
+ghost use Rattle.hurd_c.specs.Ends.{said_of, status_only};
 
 use hurd_terminal::Fault;
 
@@ -10,7 +9,7 @@ use hurd_terminal::Fault;
 #[derive(Clone, Copy, Debug)]
 pub struct Said {
     /// 0 all was made and told; 1 the text is bad; 2 the world was refused; 3 memory was refused; 4 there is no world; 5 somebody is named who isn't
-    /// there; 6 there is no sort of texts of this number; 7 these numbers and bytes make no call, or have no line.
+    /// there; 6 there is no kind of texts of this number; 7 these numbers and bytes make no call, or have no line.
     pub status: u32,
     /// The number of the refusal where the world was refused, else 0.
     pub error: u32,
@@ -39,24 +38,12 @@ pub fn ending(ended: Result<(), Fault>, length: usize) -> Said
     }
 }
 
-/// What is said where there is no world.
-pub fn no_world() -> Said
-    ensures { result ≡ unmade }
+/// What is said by a status alone, if nothing was made or told.
+pub fn status_only(status: u32) -> Said
+    ensures { result ≡ status_only status }
 {
     Said {
-        status: 4,
-        error: 0,
-        line: 0,
-        length: 0,
-    }
-}
-
-/// What is said where there is no such sort of texts.
-pub fn no_sort() -> Said
-    ensures { result ≡ unsorted }
-{
-    Said {
-        status: 6,
+        status,
         error: 0,
         line: 0,
         length: 0,

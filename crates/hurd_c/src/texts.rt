@@ -8,7 +8,7 @@ ghost use Rattle.hurd_teaching.specs.Programs.{learning, seeing};
 ghost use Rattle.hurd_c.specs.Texts.{Copies, IsUnnamed, OfSome, OfSort, marked_in, sort_at};
 
 use crate::exports::copied;
-use crate::said::{Said, ending, no_sort};
+use crate::said::{Said, ending, status_only};
 use hurd_program::{Request, TextSort, Verb, answer_text};
 use hurd_terminal::Fault;
 use std::alloc::Global;
@@ -59,7 +59,7 @@ pub extern "C" fn hurd_run(alloc: Global, sort: u32, text: &[u8], out: &mut [u8]
     ensures { OfSort sort running text.now result out.old out.new }
 {
     let Some(sort) = sort_at(sort) else {
-        return no_sort();
+        return status_only(6);
     };
     let verb = Verb::Run;
     told(alloc, &Request { sort, verb }, text, out)
@@ -78,7 +78,7 @@ pub extern "C" fn hurd_learn(
     ensures { OfSome who.now sort (λ s. learning s None who.now) text.now result out.old out.new }
 {
     let Some(sort) = sort_at(sort) else {
-        return no_sort();
+        return status_only(6);
     };
     match named(alloc, who) {
         Ok(who) => {
@@ -101,7 +101,7 @@ pub extern "C" fn hurd_see(
     ensures { OfSome who.now sort (λ s. seeing s None who.now) text.now result out.old out.new }
 {
     let Some(sort) = sort_at(sort) else {
-        return no_sort();
+        return status_only(6);
     };
     match named(alloc, who) {
         Ok(who) => {
@@ -125,7 +125,7 @@ pub extern "C" fn hurd_can(
     ensures { OfSome who.now sort (λ s. could s (not (every == 0)) false who.now) text.now result out.old out.new }
 {
     let Some(sort) = sort_at(sort) else {
-        return no_sort();
+        return status_only(6);
     };
     match named(alloc, who) {
         Ok(who) => {
@@ -153,7 +153,7 @@ pub extern "C" fn hurd_draw(
     ensures { OfSome who.now sort (λ s. drawing s false (marked_in who.now)) text.now result out.old out.new }
 {
     let Some(sort) = sort_at(sort) else {
-        return no_sort();
+        return status_only(6);
     };
     match marked(alloc, who) {
         Ok(who) => {

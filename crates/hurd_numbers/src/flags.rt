@@ -9,7 +9,7 @@ use hurd_machine::Whence;
 use hurd_words::fault::ReadFault;
 
 /// Flags of opening.
-pub(crate) fn open_flags(bits: u32) -> Result<OpenFlags, ReadFault>
+pub fn open_flags(bits: u32) -> Result<OpenFlags, ReadFault>
     ensures { ReadsInPlace (λ f. f) (open_flags_at bits) result }
 {
     if bits < 512 {
@@ -42,7 +42,7 @@ pub(crate) fn goaway_flags(bits: u32) -> Result<GoawayFlags, ReadFault>
 }
 
 /// A mode; bits that none knows stay.
-pub(crate) fn mode(bits: u32) -> Mode
+pub fn mode(bits: u32) -> Mode
     ensures { result ≡ mode_at bits }
 {
     <Mode as Flags>::from_bits_retain(bits)

@@ -3,17 +3,19 @@ ghost use Rattle.std.specs.Prelude.{◌≡◌, IfOk, IsTrue, map};
 ghost use Rattle.std.specs.Result.{result_ok};
 ghost use Rattle.hurd_words.specs.Reading.{Reads};
 ghost use Rattle.hurd_lists.specs.Lists.{listed_by, reading_of, said_by};
-ghost use Rattle.hurd_numbers.specs.Lines.{HasOnly, IsLineOf, IsOnly};
+ghost use Rattle.hurd_trans_iface.specs.Meaning.{begin};
+ghost use Rattle.hurd_numbers.specs.Lines.{HasLine, HasOnly, IsLineOf, IsListed, IsOnly, start_of};
 
 use crate::calls::{Numbers, call_of, verb_at};
 use crate::flags::{mode, open_flags};
 use crate::same::{same_call, same_server};
 use crate::words::{after_first, first_of, words_in};
-use hurd_creds::Bytes;
+use hurd_creds::{Bytes, TaskId};
 use hurd_lists::{
     CallList, ListFault, ListedCall, Verb, parse_calls, push_flags, push_high_digits,
 };
-use hurd_trans_iface::Server;
+use hurd_machine::{Call, PlainCall};
+use hurd_trans_iface::{Server, Words};
 use hurd_words::escapes::push_escaped;
 use hurd_words::fault::ReadFault;
 use hurd_words::printing::{push_mode, push_number};
@@ -328,6 +330,69 @@ fn has_only<S: Server>(list: &CallList<S>, call: &ListedCall<S>) -> bool
         [] => is_only(list.calls.as_slice(), call),
         _ => false,
     }
+}
+
+/// The call that a line is read as, if it is this one alone.
+fn lined<S: Server>(
+    alloc: Global,
+    line: &[u8],
+    call: &ListedCall<S>,
+) -> Result<ListedCall<S>, ReadFault>
+    ensures { IfOk result (λ read. HasLine (listed_by S.meaning call.now) (listed_by S.meaning read)) }
+{
+    let read = read_back(alloc, line)?;
+    if !has_only(&read, call) {
+        return Err(ReadFault::Bad);
+    }
+    let CallList {
+        tasks: _,
+        mut calls,
+    } = read;
+    match calls.pop() {
+        Some(call) => Ok(call),
+        None => Err(ReadFault::Bad),
+    }
+}
+
+/// The call of these numbers and bytes with its line, as it is read from that.
+///
+/// Errors: `Bad` if they make no call, or if the line is longer than a list may be; `Memory` at any point.
+pub fn listed<S: Server>(
+    alloc: Global,
+    numbers: &Numbers,
+    bytes: &[u8],
+) -> Result<ListedCall<S>, ReadFault>
+    ensures { IfOk result (λ read. IsListed numbers.now bytes.now (listed_by S.meaning read)) }
+{
+    let call = call_of(alloc, numbers, bytes)?;
+    let line = written(alloc, numbers, bytes)?;
+    lined(alloc, line.as_slice(), &call)
+}
+
+/// The call of a task that starts a translator by the server of these words, with its line.
+///
+/// Errors: `Bad` if no kind takes the words; `Memory` at any point.
+pub fn listed_start<S: Server>(
+    alloc: Global,
+    task: TaskId,
+    words: Words,
+) -> Result<ListedCall<S>, ReadFault>
+    ensures { IfOk result (λ read. HasLine (start_of task (begin words)) (listed_by S.meaning read)) }
+{
+    let mut line = Vec::new(alloc);
+    let mut buffer = Buffer::new();
+    line.extend_from_slice(buffer.format(task.0).as_bytes())?;
+    line.extend_from_slice(b" fsys_startup box")?;
+    for word in words.as_slice() {
+        push_bytes(&mut line, word.as_slice())?;
+    }
+    let call = ListedCall {
+        task,
+        call: Call::Plain(PlainCall::StartFailed),
+        line: Bytes::new(Vec::new(alloc)),
+        server: Some(words),
+    };
+    lined(alloc, line.as_slice(), &call)
 }
 
 /// The line of a list that makes the call of these numbers and bytes, without a newline. It was read back.

@@ -5,3 +5,5 @@ pub mod MadeLaws
 pub mod ReadLaws
 pub mod TextLaws
 pub mod ReplyLaws
+pub mod OpenLaws
+pub mod LineLaws

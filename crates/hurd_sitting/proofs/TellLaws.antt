@@ -1,27 +1,23 @@
 -- What calls tell those who are told what they learn, in several texts and in one.
-use Rattle.std.proofs.Common.{◌≡◌, ◌∙◌, ◌||◌, ◌+◌, ℕ, Bool, false, not, List, [], ◌∷◌, ◌++◌, Option, Some, None, ap, append-nil, append_assoc, arith, refl, subst, sym}
+use Rattle.std.proofs.Common.{◌≡◌, ◌∙◌, ◌||◌, ◌+◌, ℕ, Bool, not, List, [], ◌∷◌, ◌++◌, Option, Some, None, ap, append_assoc, arith, refl, subst, sym}
 use Rattle.std.proofs.lemmas.Bool.{le-ltb}
 use Rattle.hurd_creds.specs.declared.name.TaskId.{TaskId}
 use Rattle.hurd_lists.specs.Lists.{Listed}
 use Rattle.hurd_machine.specs.World.{World}
 use Rattle.hurd_sight.specs.Reach.{among}
-use Rattle.hurd_views.specs.declared.view.View.{View}
 use Rattle.hurd_dialogue.specs.Parts.{Part, world_behind}
-use Rattle.hurd_calls.specs.Making.{after_call, answer_to, parts_of}
+use Rattle.hurd_calls.specs.Making.{answer_to, parts_of}
 use Rattle.hurd_words.specs.Answers.{plain}
 use Rattle.hurd_words.specs.Turns.{paragraph}
 use Rattle.hurd_lessons.specs.Told.{Lesson, Said}
 use Rattle.hurd_teaching.specs.Learners.{is_quiet}
 use Rattle.hurd_teaching.specs.Lessons.{LessonsOf, told_text}
-use Rattle.hurd_teaching.specs.Telling.{SaysOf}
-use Rattle.hurd_teaching.specs.Watched.{Sees}
 use Rattle.hurd_teaching.specs.declared.learners.Learners.{Learners}
-use Rattle.hurd_teaching.proofs.StepLaws.{lesson}
 use Rattle.hurd_sitting.specs.Sittings.{Tells, at_once, behind, told_by}
 use Rattle.hurd_sitting.proofs.PartLaws.{as_one, none_told, one_told}
 
 -- lessons have begun, however many calls were made
-quiet_anywhere : (tasks : List TaskId) (n task : ℕ) → is_quiet tasks 0 n task ≡ among tasks task
+pub quiet_anywhere : (tasks : List TaskId) (n task : ℕ) → is_quiet tasks 0 n task ≡ among tasks task
 quiet_anywhere tasks n task = ap (λ (b : Bool). b || among tasks task) (le-ltb n 0 (omega arith))
 
 module _ (l : Learners) where
@@ -77,24 +73,3 @@ none_tells (Some l) w = ([], refl, refl)
 -- one call tells its part
 pub part_tells : (c : Listed) (w : World) (text : List ℕ) → text ≡ plain (answer_to c w) → Tells None (c ∷ []) w text
 part_tells c w text is = is ∙ sym (one_told c w)
-
--- or its paragraph, with what these learn of it
-pub paragraph_tells : (l : Learners) (c : Listed) (w x : World) (quiet : Bool) (before after : Option View) (said text : List ℕ) → quiet ≡ among l.tasks.items c.task.0
-    → (quiet ≡ false → Sees l.tasks.items w before) → x ≡ after_call c w → SaysOf l.tasks.items l.who.items quiet x before after said → text ≡ paragraph (answer_to c w) (said ++ [])
-    → Tells (Some l) (c ∷ []) w text
-unfolding parts_of
-paragraph_tells l c w x quiet before after said text is sees made says prints =
-    let same : quiet ≡ is_quiet l.tasks.items 0 0 c.task.0 = is ∙ sym (quiet_anywhere l.tasks.items 0 c.task.0) in
-    let learned : Lesson l.tasks.items l.who.items quiet w x said = lesson l.tasks.items (at_once l) w x quiet before after said sees says in (
-      record { counts = not (is_quiet l.tasks.items 0 0 c.task.0); text = said; shown = [] } ∷ [],
-      (
-        said,
-        [],
-        [],
-        refl,
-        subst (λ (b : Bool). Lesson l.tasks.items l.who.items b w (after_call c w) said) same (subst (λ (y : World). Lesson l.tasks.items l.who.items quiet w y said) made learned),
-        refl,
-        refl,
-      ),
-      prints ∙ sym (append-nil (paragraph (answer_to c w) (said ++ []))),
-    )

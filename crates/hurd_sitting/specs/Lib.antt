@@ -1,5 +1,6 @@
 pub mod Sittings
 pub mod Replies
+pub mod Openings
 pub mod Watching
 pub mod Staged
 pub mod Kept

@@ -1,5 +1,5 @@
 //! Making one call, and giving its reply.
-ghost use Rattle.std.specs.Prelude.{◌≡◌, ◌⊎◌, IfErr, IfOk, OnOk, Some};
+ghost use Rattle.std.specs.Prelude.{◌≡◌, ◌⊎◌, false, IfErr, IfOk, OnOk, Some};
 ghost use Rattle.std.specs.Option.{option_map};
 ghost use Rattle.hurd_kinds.specs.Boxes.{box_meaning};
 ghost use Rattle.hurd_laws.specs.Step.{reply_of};
@@ -10,17 +10,16 @@ ghost use Rattle.hurd_machine.specs.Sound.{Sound};
 ghost use Rattle.hurd_world.specs.Held.{state_of, world_of};
 ghost use Rattle.hurd_world.specs.Noting.{NotesWhatIsTouched};
 ghost use Rattle.hurd_calls.specs.Making.{after_call};
-ghost use Rattle.hurd_teaching.specs.Watched.{SeenOf};
+ghost use Rattle.hurd_teaching.specs.Watched.{SeenOf, Sees};
 ghost use Rattle.hurd_sitting.specs.Replies.{Replies};
 ghost use Rattle.hurd_sitting.specs.Watching.{SeenBy};
 
-use crate::making::looked;
 use hurd_calls::brought;
 use hurd_creds::Bytes;
 use hurd_kinds::ServerBox;
 use hurd_lists::{ListedCall, with_server};
 use hurd_machine::Reply;
-use hurd_teaching::{Learners, Watch, said_if_moved};
+use hurd_teaching::{Learners, Watch, look_before, said_if_moved};
 use hurd_trans_iface::Server;
 use hurd_world::World;
 use std::alloc::{AllocError, Global};
@@ -75,6 +74,25 @@ fn reply_by_words(
 {
     let server = brought(alloc, &listed.server)?;
     reply_to(world, alloc, listed, server)
+}
+
+/// Looks at what these see before a call by another, unless that was done, and notes from then on what is touched. Fails only if memory runs out.
+fn looked(
+    world: &mut World<ServerBox>,
+    alloc: Global,
+    learners: &Learners,
+    watch: &mut Watch,
+    quiet: bool,
+) -> Result<(), AllocError>
+    requires { SeenOf learners.now.tasks.items (world_of box_meaning world.old) watch.old.seen }
+    ensures sees { OnOk result (quiet ≡ false → Sees learners.now.tasks.items (world_of box_meaning world.old) watch.new.seen) }
+    ensures world { world_of box_meaning world.new ≡ world_of box_meaning world.old }
+{
+    look_before(alloc, world, learners, watch, quiet)?;
+    if !quiet {
+        world.note();
+    }
+    Ok(())
 }
 
 /// Makes a call, and gives its reply, and what these learn by it. Fails only if memory runs out: then the call was made, or nothing changed.

@@ -10,6 +10,8 @@
 //!
 //! `Sitting::call` makes one call without any text, and gives its reply. Those who are watched are told the same of it as of a call in a text.
 //!
+//! `Sitting::open` opens what a path leads to, as commands of a script do, by `hurd_client`. `told` then has its calls, each with its line.
+//!
 //! Texts that are made one after another tell what one list of their calls tells, and leave the same world: `calls_are_one` says it of calls, `texts_are_one`
 //! of the bytes of a list and of a text after it.
 #![tactic(auto)]
@@ -18,6 +20,7 @@ mod answering;
 mod laws;
 mod making;
 mod naming;
+mod opening;
 mod sitting;
 mod stage;
 

@@ -10,17 +10,24 @@ ghost use Rattle.hurd_dialogue.specs.Sorts.{NotBegun};
 ghost use Rattle.hurd_world.specs.Held.{world_of};
 ghost use Rattle.hurd_sitting.specs.Sittings.{Begins, Makes, NotMade};
 ghost use Rattle.hurd_sitting.specs.Kept.{SameStand, SameWatch, learners_in, tasks_in, told_in, world_in};
+ghost use Rattle.hurd_client.specs.Looking.{open_node};
+ghost use Rattle.hurd_sitting.specs.Openings.{Ran, RanSome};
 ghost use Rattle.hurd_sitting.specs.Replies.{Replies};
 ghost use Rattle.hurd_sitting.specs.Watching.{NotWatched, Watches};
 
 use crate::answering::Replied;
+use crate::making::make_all;
+use crate::opening::open;
 use crate::stage::Stage;
 use hurd_calls::{begun, parsed};
+use hurd_client::{OpenHow, Opening};
+use hurd_creds::{Bytes, Errno, TaskId};
 use hurd_dialogue::boxed;
 use hurd_kinds::{ServerBox, empty_tree};
 use hurd_lists::{CallList, ListedCall};
 use hurd_machine::Reply;
 use hurd_terminal::Fault;
+use hurd_words::fault::ReadFault;
 use hurd_world::World;
 use std::alloc::{AllocError, Global};
 
@@ -48,7 +55,7 @@ impl Sitting {
         let root = ServerBox::Tmpfs(empty_tree(alloc)?);
         let mut stage = Stage::of(begun(alloc, root, tasks)?);
         let mut told = Vec::new(alloc);
-        stage.make(alloc, calls, &mut told)?;
+        make_all(&mut stage, alloc, calls, &mut told)?;
         let sitting = Sitting {
             stage,
             told,
@@ -71,7 +78,7 @@ impl Sitting {
         if !tasks.is_empty() {
             return Err(Fault::Bad { line: 0 });
         }
-        Ok(self.stage.make(alloc, calls, &mut self.told)?)
+        Ok(make_all(&mut self.stage, alloc, calls, &mut self.told)?)
     }
 
     /// Makes one call, and gives its reply. Then `told` is what those who are watched learn by it: nothing of a call of their own.
@@ -92,7 +99,30 @@ impl Sitting {
         Ok(reply)
     }
 
-    /// From now on `make` and `call` tell what the tasks learn whose numbers `who` lists, separated by commas; nothing of that if it has no bytes.
+    /// Opens what a path leads to, as commands of a script do: looks it up from a directory, or from the root if it begins with a slash; follows at most 32 retries and
+    /// starts; makes the servers that are to be started, of their words; and gives up the ports of the way. Gives the port, or the refusal. Then `told` is what `make` would
+    /// tell of the same calls.
+    ///
+    /// Errors: `Bad` if a call has no line, since that would be longer than a list may be, or a flag has no name; `Memory` at any point. Then some first calls were made and told,
+    /// and perhaps the next was made.
+    pub fn open(
+        &mut self,
+        alloc: Global,
+        task: TaskId,
+        directory: u64,
+        path: Bytes,
+        how: OpenHow,
+    ) -> Result<Result<u64, Errno>, ReadFault>
+        ensures ok { IfOk result (λ end. Ran (learners_in self.old) task (open_node directory path how) (world_in self.old) end [] (told_in self.new) (world_in self.new)) }
+        ensures err { IfErr result (λ _. RanSome (learners_in self.old) task (open_node directory path how) (world_in self.old) [] (told_in self.new) (world_in self.new)) }
+        ensures watch { SameWatch self.old self.new }
+    {
+        self.told.clear();
+        let opening = Opening::at(alloc, directory, path, how);
+        open(&mut self.stage, alloc, task, opening, &mut self.told)
+    }
+
+    /// From now on `make`, `open` and `call` tell what the tasks learn whose numbers `who` lists, separated by commas; nothing of that if it has no bytes.
     ///
     /// Errors, in order: `Unknown` where one of them isn't there; `Memory` at any point. Then nothing changes.
     pub fn watch(&mut self, alloc: Global, who: &[u8]) -> Result<(), Fault>

@@ -7,15 +7,16 @@ ghost use Rattle.hurd_machine.specs.Calls.{reply_by};
 ghost use Rattle.hurd_machine.specs.Sound.{Sound};
 ghost use Rattle.hurd_world.specs.Held.{world_of};
 ghost use Rattle.hurd_calls.specs.Making.{after_call};
-ghost use Rattle.hurd_sitting.specs.Replies.{Replies};
-ghost use Rattle.hurd_sitting.specs.Sittings.{Adds, SomeMade, behind, listed};
+ghost use Rattle.hurd_sitting.specs.Replies.{Answers, Replies};
 ghost use Rattle.hurd_sitting.specs.Watching.{NotWatched, Watches};
 
 use crate::answering::{Replied, replied_with};
-use crate::making::make_all;
+use crate::making::text_of;
 use crate::naming::watched;
+use hurd_creds::Bytes;
 use hurd_kinds::ServerBox;
 use hurd_lists::ListedCall;
+use hurd_machine::Reply;
 use hurd_teaching::{Learners, Watch};
 use hurd_terminal::Fault;
 use hurd_world::World;
@@ -61,33 +62,6 @@ impl Stage {
         }
     }
 
-    /// Makes calls one after another, and adds what each tells. Fails only if memory runs out: then some first calls were made and told, and perhaps the next
-    /// was made.
-    pub(crate) fn make(
-        &mut self,
-        alloc: Global,
-        calls: Vec<ListedCall<ServerBox>>,
-        told: &mut Vec<u8>,
-    ) -> Result<(), AllocError>
-        ensures told { OnOk result (Adds self.old.learners (listed calls.items) (world_of box_meaning self.old.world) told.old.items told.new.items) }
-        ensures world { OnOk result (world_of box_meaning self.new.world ≡ behind (listed calls.items) (world_of box_meaning self.old.world)) }
-        ensures err { IfErr result (λ _. SomeMade self.old.learners (listed calls.items) (world_of box_meaning self.old.world)
-            told.old.items told.new.items (world_of box_meaning self.new.world)) }
-        ensures learners { self.new.learners ≡ self.old.learners }
-    {
-        let mut watch = mem::replace(&mut self.watch, Watch::new());
-        make_all(
-            &mut self.world,
-            alloc,
-            calls,
-            &self.learners,
-            &mut watch,
-            told,
-        )?;
-        self.watch = watch;
-        Ok(())
-    }
-
     /// Makes a call, and gives its reply, and what is told of it. Fails only if memory runs out: then the call was made, or nothing changed.
     pub(crate) fn call(
         &mut self,
@@ -103,6 +77,27 @@ impl Stage {
         let replied = replied_with(&mut self.world, alloc, listed, &self.learners, &mut watch)?;
         self.watch = watch;
         Ok(replied)
+    }
+
+    /// Makes a call, adds what it tells, and gives its reply. Fails only if memory runs out: then nothing is added, and the call was made, or nothing changed.
+    pub(crate) fn tell(
+        &mut self,
+        alloc: Global,
+        listed: ListedCall<ServerBox>,
+        told: &mut Vec<u8>,
+    ) -> Result<Reply<ServerBox>, AllocError>
+        ensures ok { IfOk result (λ reply. Answers self.old.learners (listed_by box_meaning listed) (world_of box_meaning self.old.world) (reply_by box_meaning reply)
+            told.old.items told.new.items (world_of box_meaning self.new.world)) }
+        ensures err { IfErr result (λ _. (told.new.items ≡ told.old.items) × ((world_of box_meaning self.new.world ≡ world_of box_meaning self.old.world)
+            ⊎ (world_of box_meaning self.new.world ≡ after_call (listed_by box_meaning listed) (world_of box_meaning self.old.world)))) }
+        ensures learners { self.new.learners ≡ self.old.learners }
+    {
+        let line = Bytes::copied(alloc, listed.line.as_slice())?;
+        let watched = self.learners.is_some();
+        let Replied { reply, told: said } = self.call(alloc, listed)?;
+        let text = text_of(alloc, line, &reply, &said, watched)?;
+        told.extend_from_slice(text.as_slice())?;
+        Ok(reply)
     }
 
     /// Watches the tasks whose numbers `who` lists, separated by commas; no task if it has no bytes. There are `count` tasks.

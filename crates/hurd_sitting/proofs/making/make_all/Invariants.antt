@@ -1,7 +1,6 @@
-use Rattle.std.specs.Option.{option_map}
+use Rattle.std.proofs.Common.{◌≡◌}
 use Rattle.std.specs.Vec.Iter.{into_iter_items}
 use Rattle.hurd_kinds.specs.Boxes.{box_meaning}
-use Rattle.hurd_machine.specs.Sound.{Sound}
 use Rattle.hurd_world.specs.Held.{world_of}
 use Rattle.hurd_sitting.specs.Sittings.{listed}
 use Rattle.hurd_sitting.proofs.MadeLaws.{Made}
@@ -12,7 +11,6 @@ abbrev pub invariant-loop-listed : goal.invariant-loop-listed
 invariant-loop-listed l = record {
   can : goal.iterator-loop-listed.can_next l.listed-iterator;
   ends : goal.iterator-loop-listed.is_finite l.listed-iterator;
-  made : Made (option_map (λ v. v.value) l.fn.learners) (listed l.fn.calls.items) (world_of box_meaning l.fn.world) l.fn.told.items l.told.items (listed (into_iter_items l.listed-iterator))
-      (world_of box_meaning l.world) l.watch.seen;
-  sound : Sound (world_of box_meaning l.world);
+  made : Made l.fn.stage.learners (listed l.fn.calls.items) (world_of box_meaning l.fn.stage.world) l.fn.told.items l.told.items (listed (into_iter_items l.listed-iterator)) (world_of box_meaning l.stage.world);
+  same : l.stage.learners ≡ l.fn.stage.learners;
 }
