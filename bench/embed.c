@@ -2,7 +2,7 @@
    again, while another task that sees all files is watched. Prints rows of the same form.
 
    embed FILES LINES WAY: LINES calls are in a text, 1 or more, or 0 if each is made as numbers and bytes; WAY is what the rows are called. To write the lines is part of the work.
-   With 0 it also writes and reads 65,536 bytes at a time, as `memcpy` copies them, in a file of 1 MB. Status 1 with one line where something goes wrong. */
+   With 0 it also does stat with the path opened by `hurd_open`, and writes and reads 65,536 bytes at a time, as `memcpy` copies them, in a file of 1 MB. Status 1 with one line where something goes wrong. */
 #define _GNU_SOURCE
 #include "hurd.h"
 #include <stdarg.h>
@@ -56,18 +56,26 @@ static uint64_t made(const hurd_request *request, const char *bytes, size_t coun
     return is.reply.number;
 }
 
+/* Opens a path by `hurd_open`, and gives its port. */
+static uint64_t opened(const hurd_request *request, const char *path, size_t count) {
+    hurd_reply is = hurd_open(&world, request, (const uint8_t *)path, count);
+    must(is.status == HURD_DONE && is.reply.which == HURD_IS_PORT, "a path is not opened");
+    return is.reply.number;
+}
+
 /* Opens a file by numbers, makes a call on it, and closes it. */
-static void by_numbers(long file, uint32_t flags, uint32_t which, const char *bytes) {
+static void by_numbers(long file, uint32_t flags, uint32_t which, const char *bytes, int by_path) {
     char path[64];
     int length = snprintf(path, sizeof path, "d%ld/f%ld", file / directory_size, file);
-    uint64_t found = made(&(hurd_request){ .task = 1, .call = HURD_DIR_LOOKUP, .port = 1, .flags = flags, .mode = 0644 }, path, length);
+    const hurd_request look_up = { .task = 1, .call = HURD_DIR_LOOKUP, .port = 1, .flags = flags, .mode = 0644 };
+    uint64_t found = by_path ? opened(&look_up, path, length) : made(&look_up, path, length);
     made(&(hurd_request){ .task = 1, .call = which, .port = found, .offset = -1 }, bytes, strlen(bytes));
     made(&(hurd_request){ .task = 1, .call = HURD_PORT_DEALLOCATE, .port = found }, "", 0);
 }
 
 static void create(long file) {
     if (!most_lines) {
-        by_numbers(file, HURD_WRITE | HURD_CREATE, HURD_IO_WRITE, "contents");
+        by_numbers(file, HURD_WRITE | HURD_CREATE, HURD_IO_WRITE, "contents", 0);
         return;
     }
     call("1 dir_lookup 1 =d%ld/f%ld WRITE,CREATE 644\n", file / directory_size, file);
@@ -77,12 +85,16 @@ static void create(long file) {
 
 static void stat_one(long file) {
     if (!most_lines) {
-        by_numbers(file, 0, HURD_IO_STAT, "");
+        by_numbers(file, 0, HURD_IO_STAT, "", 0);
         return;
     }
     call("1 dir_lookup 1 =d%ld/f%ld - 0\n", file / directory_size, file);
     call("1 io_stat %ld\n", port);
     call("1 port_deallocate %ld\n", port++);
+}
+
+static void stat_opened(long file) {
+    by_numbers(file, 0, HURD_IO_STAT, "", 1);
 }
 
 static long long now(void) {
@@ -138,6 +150,8 @@ int main(int count, char **words) {
         make();
     measure(words[3], "create", create, files);
     measure(words[3], "stat", stat_one, files);
+    if (!most_lines)
+        measure(words[3], "stat by hurd_open", stat_opened, files);
     /* another task sees all files, and what it learns is told */
     must(hurd_watch(&world, (const uint8_t *)"2", 1).status == HURD_DONE, "a watch is refused");
     measure(words[3], "stat, watched", stat_one, files);

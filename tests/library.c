@@ -1,5 +1,5 @@
 /* Steps of a program over the library, a word each. begin=TEXT, make=TEXT, watch=WHO, told=FROM and end are about a world that is kept; run=TEXT, learn=TEXT, see=TEXT,
-   can=TEXT and draw=TEXT about a whole text. call=BYTES makes one call in the world, and line=BYTES gives its line; numbers=N,.. has its numbers, in the order of
+   can=TEXT and draw=TEXT about a whole text. call=BYTES makes one call in the world, line=BYTES gives its line, and open=PATH opens a path; numbers=N,.. has its numbers, in the order of
    hurd_request, and a `|` among the bytes stands for a zero byte. After each except `end` it prints the bytes that were copied, if any may be, and a line that says how
    it ended. room=N, kind=N, who=WHO and every=N say what the later steps are given, and file=NAME which file has the next text.
 
@@ -159,6 +159,27 @@ static void number(const char *word)
     request = (hurd_request){ all[0], all[1], all[2], all[3], all[4], all[5], all[6], all[7], all[8], all[9], all[10], all[11], all[12], all[13] };
 }
 
+/* Prints a reply's numbers. */
+static void say_reply(hurd_reply is)
+{
+    if (is.status == HURD_MEMORY && !goes_on)
+        lack();
+    printf("[status %u which %u error %u number %llu length %zu told %zu]\n", (unsigned)is.status, (unsigned)is.reply.which, (unsigned)is.reply.error,
+           (unsigned long long)is.reply.number, is.length, is.told);
+    give_up();
+}
+
+/* Opens a path, if the word is such a step. */
+static int step_of_path(const char *word)
+{
+    const char *path = said_by(word, "open");
+    if (!path)
+        return 0;
+    size_t size = take(path);
+    say_reply(hurd_open(&world, &request, text, size));
+    return 1;
+}
+
 /* Makes one call of these bytes, or gives its line, if the word is such a step. */
 static int step_of_call(const char *word)
 {
@@ -174,12 +195,9 @@ static int step_of_call(const char *word)
         return 1;
     }
     hurd_reply is = hurd_call(&world, &request, text, size, out, room);
-    if (is.status == HURD_MEMORY && !goes_on)
-        lack();
-    show(is.length < room ? is.length : room);
-    printf("[status %u which %u error %u number %llu length %zu told %zu]\n", (unsigned)is.status, (unsigned)is.reply.which, (unsigned)is.reply.error,
-           (unsigned long long)is.reply.number, is.length, is.told);
-    give_up();
+    if (is.status != HURD_MEMORY || goes_on)
+        show(is.length < room ? is.length : room);
+    say_reply(is);
     return 1;
 }
 
@@ -229,7 +247,7 @@ static void step(const char *word)
         every = strtoul(rest, NULL, 10);
     else if ((rest = said_by(word, "file")))
         file = rest;
-    else if (!step_of_world(word) && !step_of_call(word) && !step_of_text(word)) {
+    else if (!step_of_world(word) && !step_of_path(word) && !step_of_call(word) && !step_of_text(word)) {
         printf("no such step: %s\n", word);
         end(3);
     }

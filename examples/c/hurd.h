@@ -62,7 +62,7 @@ hurd_said hurd_make(hurd_world *world, const uint8_t *calls, size_t size, uint8_
    HURD_DONE, nothing changes. */
 hurd_said hurd_watch(hurd_world *world, const uint8_t *who, size_t size);
 
-/* Copies what the last text printed, or what was learned from the last call, from the byte `from` on, as far as there is room. Returns how many bytes these are. */
+/* Copies what the last text or opening printed, or what was learned from the last call, from the byte `from` on, as far as there is room. Returns how many bytes these are. */
 size_t hurd_told(hurd_world *world, size_t from, uint8_t *out, size_t room);
 
 /* Frees the world. */
@@ -169,6 +169,15 @@ typedef struct hurd_reply {
    After this hurd_told gives what those who are watched learn from the call: nothing if it is a call of their own. If the status is HURD_NO_CALL, nothing changes: there is
    no such call, it has bits that no flag has, or its bytes are not of this form. If it is HURD_MEMORY, the call was made, or nothing changed. */
 hurd_reply hurd_call(hurd_world *world, const hurd_request *request, const uint8_t *bytes, size_t size, uint8_t *out, size_t room);
+
+/* Opens what a path leads to, as the commands of a script do. It looks the path up at the port of a directory, or at the root if the path begins with a slash. It
+   follows at most 32 retries and starts: a translator that is to be started gets the server that its words make. Then it gives up the ports of the way.
+   Of the request it takes the task, the port, the flags of opening, and the mode of a file that is created. If the status is HURD_DONE, the reply is HURD_IS_PORT
+   or HURD_IS_REFUSED; it has no bytes.
+   After this hurd_told gives all calls that were made, each as hurd_make prints it: its line, its reply, and what is learned from it. If the status is HURD_NO_CALL, a
+   flag is unknown, or a call has no line that fits into a list. If it is HURD_NO_CALL or HURD_MEMORY, some first calls may have been made and printed, and the ports that they
+   got stay with the task; if it is HURD_MEMORY, the next may have been made too. */
+hurd_reply hurd_open(hurd_world *world, const hurd_request *request, const uint8_t *path, size_t size);
 
 /* Copies the line of a list that makes the same call, without a newline, as far as there is room. The status is HURD_NO_CALL if there is no such call, or if its line
    would be longer than a list may be. */

@@ -14,6 +14,7 @@ of them is proved; docs/PROFILE.md describes the language of the texts.
 """
 from __future__ import annotations
 
+import contextlib
 import ctypes
 import enum
 import os
@@ -290,6 +291,7 @@ _FUNCTIONS = {
     "hurd_told": (ctypes.c_size_t, [_HELD, ctypes.c_size_t, *_BYTES]),
     "hurd_watch": (_Said, [_HELD, *_BYTES]),
     "hurd_call": (_Reply, [_HELD, ctypes.POINTER(_Request), *_BYTES, *_BYTES]),
+    "hurd_open": (_Reply, [_HELD, ctypes.POINTER(_Request), *_BYTES]),
     "hurd_line": (_Said, [ctypes.POINTER(_Request), *_BYTES, *_BYTES]),
     "hurd_end": (None, [_HELD]),
     "hurd_run": (_Said, [*_KIND, *_BYTES, *_BYTES]),
@@ -460,6 +462,31 @@ class World:
         self._steps.append(("_again", (task, call, data, numbers)))
         return reply
 
+    def open(self, task: int, path: bytes, port: int = 2, flags: int = 0, mode: int = 0) -> Reply:
+        r"""Opens what a path leads to, as the commands of a script do: it follows retries, and starts translators that wait, by the servers that their words make.
+
+        `port` is that of the directory where the path starts, if it doesn't begin with a slash; 2 is the task's working directory. `flags` are those of opening, and `mode` is
+        that of a file that is created. The reply is a port or a refusal. `told` has all calls that were made, as `make` prints them, with what those learn whom `learn` names.
+
+            world.open(0, b"/home/alice/motd", flags=1)
+
+        Raises NoCall if a flag is unknown, or if a call has no line that fits into a list; NoMemory; NoWorld; ValueError if a number is none of its size. After NoCall and NoMemory
+        some first calls may have been made, which `told` has.
+        """
+        numbers = {"port": port, "flags": flags, "mode": mode}
+        said = _library.hurd_open(self._held(), ctypes.byref(_request(task, Call.DIR_LOOKUP, numbers)), path, len(path))
+        self._told = _text_of(self._rest(0, said.told)) if said.told else ""
+        self._steps.append(("_open_again", (task, path, numbers)))
+        if said.status:
+            self._fail(_Said(status=said.status), self._told)
+        return _reply_of(said, b"")
+
+    def _open_again(self, given: Tuple[int, bytes, Dict[str, int]]) -> None:
+        """Opens a path as it was opened in another world."""
+        task, path, numbers = given
+        with contextlib.suppress(NoCall):
+            self.open(task, path, **numbers)
+
     def _again(self, given: Tuple[int, int, bytes, Dict[str, int]]) -> None:
         """Makes a call as it was made in another world."""
         task, call, data, numbers = given
@@ -467,7 +494,7 @@ class World:
 
     @property
     def told(self) -> str:
-        """What the last text printed, or what was learned from the last call. Raises NoWorld if the world is closed."""
+        """What the last text or opening printed, or what was learned from the last call. Raises NoWorld if the world is closed."""
         self._held()
         if not self._world.at:
             raise NoWorld

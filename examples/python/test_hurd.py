@@ -254,6 +254,74 @@ def test_bad_numbers() -> None:
                 raises(ValueError, lambda: short.words)
 
 
+# PATHS
+
+PATHS = [b"", b"/", b"home", b"home/x", b"x", b"/motd", b"no/such", b"dev/fd/1", b"l", b"/home/alice/f", b"tmp/", b"x/y/z", b"a b\n\xff", b"d/d/d", b"p", b"h"]
+
+
+def lines_in(told: str) -> str:
+    """The lines of the calls in what was told: all but replies and lessons."""
+    return "\n".join(line for line in told.split("\n") if line and line[0] not in " |")
+
+
+def test_openings_as_text() -> None:
+    """An opening prints what its calls print as a text, with what is learned from them, and leaves the same world. Its reply is the last one of its lookups."""
+    opened = 0
+    for path in LISTS:
+        tasks, calls = split(told_of(path))
+        count = tasks.count("task")
+        for who in ("", "0"):
+            with World(tasks + "".join(calls)) as world, World(tasks + "".join(calls)) as texts:
+                for each in (world, texts):
+                    each.learn(who)
+                for number, name in enumerate(PATHS):
+                    task, flags = number % count, (1, 64, 129, 17, 256)[number % 5]
+                    reply = world.open(task, name, port=1 + number % 2, flags=flags, mode=0o644)
+                    assert texts.make(lines_in(world.told)) == world.told, (path, name)
+                    answers = [line.lstrip("| ") for line in world.told.split("\n") if re.match(r"(\|   |  )(Found|Refused)", line)]
+                    if reply.which == hurd.Which.PORT:
+                        assert f"Found Done {reply.number}" in answers, (path, name)
+                    else:
+                        assert reply.which == hurd.Which.REFUSED and (reply.error == hurd.Error.ELOOP or reply.error == hurd.Error.ENOENT or f"Refused {hurd.Error(reply.error).name}" in answers), (path, name)
+                    opened += 1
+    assert opened > 1000
+
+
+def test_openings_follow() -> None:
+    """Links, translators that wait, words that make no server, and a way that never ends."""
+    tree = "task 0 0\ntask 1000 1000\n0 dir_lookup 1 =f WRITE,CREATE 644\n0 io_write 3 =text -1\n0 dir_lookup 1 =l NOTRANS,CREATE 644\n0 file_set_translator 4 SET - - =/hurd/symlink =/f\n"
+    tree += "0 dir_lookup 1 =h NOTRANS,CREATE 644\n0 file_set_translator 5 SET - - =/hurd/hello\n0 dir_lookup 1 =n NOTRANS,CREATE 644\n0 file_set_translator 6 SET - - =/hurd/nothing\n"
+    tree += "0 dir_lookup 1 =r NOTRANS,CREATE 644\n0 file_set_translator 7 SET - - =/hurd/symlink =r\n"
+    tree += "".join(f"0 port_deallocate {port}\n" for port in range(3, 8))
+    with World(tree) as world:
+        assert world.open(1, b"l", flags=1).number and "MAGICAL =/f" in world.told
+        found = world.open(1, b"h", flags=1)
+        assert found.which == hurd.Which.PORT and "1 fsys_startup box =/hurd/hello\n  Done\n" in world.told
+        assert world.call(1, hurd.Call.IO_READ, port=found.number, amount=5, offset=0).data == b"Hello"
+        missing = world.open(1, b"n", flags=1)
+        assert missing.error == hurd.Error.ENOENT and world.told.endswith("1 start_failed\n  Done\n")
+        assert world.open(1, b"r", flags=1).error == hurd.Error.ELOOP and world.told.count("dir_lookup") == 33
+        assert world.open(1, b"f", flags=2).error == hurd.Error.EACCES and world.open(7, b"f").error == hurd.Error.ESRCH
+        with world.fork() as other:
+            assert other.open(0, b"f", port=1).number == world.open(0, b"f", port=1).number and other.told == world.told
+
+
+def test_bad_openings() -> None:
+    """Flags that are unknown and paths that no line has are refused, and nothing changes."""
+    with World(FILE) as world:
+        before = world.make("0 io_stat 3")
+        raises(hurd.NoCall, lambda: world.open(0, b"motd", flags=512))
+        raises(hurd.NoCall, lambda: world.open(0, b"\n" * 2**20, flags=1))
+        assert world.told == ""
+        assert world.open(0, b"x" * 1025, flags=1).error == hurd.Error.ENAMETOOLONG
+        raises(ValueError, lambda: world.open(-1, b"motd"))
+        raises(TypeError, lambda: world.open(0, b"motd", owner=1))  # type: ignore[call-arg]
+        assert world.make("0 io_stat 3") == before
+        with world.fork() as other:
+            assert other.make("0 io_stat 3") == before
+    raises(hurd.NoWorld, lambda: world.open(0, b"motd"))
+
+
 def test_lists_in_a_world_of_their_own() -> None:
     for path in LISTS:
         assert hurd.run(path.read_bytes(), Kind.CALLS) == told_of(path.with_suffix(".transcript")), path

@@ -89,6 +89,7 @@ extern "C" {
     fn hurd_make(world: *mut Held, calls: *const u8, size: usize, out: *mut u8, room: usize) -> Said;
     fn hurd_told(world: *mut Held, from: usize, out: *mut u8, room: usize) -> usize;
     fn hurd_watch(world: *mut Held, who: *const u8, size: usize) -> Said;
+    fn hurd_open(world: *mut Held, request: *const Request, path: *const u8, size: usize) -> Answer;
     fn hurd_call(world: *mut Held, request: *const Request, bytes: *const u8, size: usize, out: *mut u8, room: usize) -> Answer;
     fn hurd_line(request: *const Request, bytes: *const u8, size: usize, out: *mut u8, room: usize) -> Said;
     fn hurd_end(world: *mut Held);
@@ -122,8 +123,8 @@ pub enum Error {
     NoMemory { told: Vec<u8> },
     /// Somebody who is named isn't there. The reason is empty if the library gives none.
     Unknown { reason: Vec<u8> },
-    /// The numbers and bytes make no call, or their line would be longer than a list may be.
-    NoCall,
+    /// The numbers and bytes make no call, or the line of a call would be longer than a list may be. If a path was opened, `told` has the calls that were made.
+    NoCall { told: Vec<u8> },
     /// A status that no function here can end with, or that is new.
     Other { status: u32 },
 }
@@ -137,7 +138,7 @@ impl fmt::Display for Error {
             Error::BadText { reason, .. } | Error::Unknown { reason } => write!(f, "{}", String::from_utf8_lossy(reason)),
             Error::Refused { error } => write!(f, "the world could not be created: error {error}"),
             Error::NoMemory { .. } => write!(f, "out of memory"),
-            Error::NoCall => write!(f, "these numbers and bytes make no call"),
+            Error::NoCall { .. } => write!(f, "these numbers and bytes make no call"),
             Error::Other { status } => write!(f, "the library ended with status {status}"),
         }
     }
@@ -160,7 +161,7 @@ fn ended(said: &Said, told: Vec<u8>) -> Result<Vec<u8>, Error> {
         2 => Err(Error::Refused { error: said.error }),
         3 => Err(Error::NoMemory { told }),
         5 => Err(Error::Unknown { reason: reason(&told) }),
-        7 => Err(Error::NoCall),
+        7 => Err(Error::NoCall { told }),
         status => Err(Error::Other { status }),
     }
 }
@@ -197,10 +198,26 @@ impl World {
         let answer = unsafe { hurd_call(&mut self.held, request, bytes.as_ptr(), bytes.len(), out.as_mut_ptr(), out.len()) };
         ended(&Said { status: answer.status, error: 0, line: 0, length: 0 }, Vec::new())?;
         out.truncate(answer.length);
-        let mut told = vec![0; answer.told];
-        // SAFETY: the same.
-        unsafe { hurd_told(&mut self.held, 0, told.as_mut_ptr(), told.len()) };
+        let told = self.told(answer.told);
         Ok(Reply { figures: answer.reply, length: answer.length, bytes: out, told })
+    }
+
+    /// Opens what a path leads to, as the commands of a script do: it follows retries, and starts translators that wait, by the servers that their words make. Of the request it takes the
+    /// task, the port of the directory where the path starts, the flags and the mode. Returns a port or a refusal; `told` has all calls that were made, as `make` prints them.
+    pub fn open(&mut self, request: &Request, path: &[u8]) -> Result<Reply, Error> {
+        // SAFETY: as above.
+        let answer = unsafe { hurd_open(&mut self.held, request, path.as_ptr(), path.len()) };
+        let told = self.told(answer.told);
+        let told = ended(&Said { status: answer.status, error: 0, line: 0, length: 0 }, told)?;
+        Ok(Reply { figures: answer.reply, length: 0, bytes: Vec::new(), told })
+    }
+
+    /// So many bytes of what was printed last.
+    fn told(&mut self, length: usize) -> Vec<u8> {
+        let mut told = vec![0; length];
+        // SAFETY: as above; the room is that of a vector of its own.
+        unsafe { hurd_told(&mut self.held, 0, told.as_mut_ptr(), told.len()) };
+        told
     }
 
     /// Gives a text to the library, and returns all that it prints. If there was too little room, it asks for the rest.
@@ -290,6 +307,12 @@ fn main() -> Result<(), Box<dyn error::Error>> {
     let read = Request { task: 1, call: 5, port: 3, amount: 100, ..Request::default() };
     let reply = world.call(&read, b"", 100)?;
     writeln!(out, "{} is answered by {} bytes: {:?}", String::from_utf8_lossy(&line(&read, b"")?), reply.figures.number, String::from_utf8_lossy(&reply.bytes))?;
+
+    // a path as numbers: root leaves a translator that waits, and alice opens it, by three calls
+    out.write_all(&world.make(b"0 dir_lookup 1 =hello NOTRANS,CREATE 644\n0 file_set_translator 4 SET - - =/hurd/hello")?)?;
+    let opened = world.open(&Request { task: 1, port: 2, flags: 1, ..Request::default() }, b"hello")?;
+    out.write_all(&opened.told)?;
+    writeln!(out, "alice opened it at port {}", opened.figures.number)?;
 
     let script = b"user alice - -\nroot put /f x\n";
     out.write_all(&run(Kind::Script, script)?)?;
