@@ -20,7 +20,7 @@ use hurd_lists::ListedCall;
 use hurd_numbers::{Numbers, listed, listed_start};
 use hurd_trans_iface::Words;
 use hurd_words::fault::ReadFault;
-use std::alloc::Global;
+use std::alloc::{AllocError, Global};
 
 /// The calls of an opening, as `hurd_numbers` numbers them.
 const PORT_DEALLOCATE: u32 = 1;
@@ -99,7 +99,7 @@ fn starting(
 }
 
 /// Whether a kind takes these words. Fails only if memory runs out.
-fn has_server(alloc: Global, words: &Words) -> Result<bool, ReadFault>
+fn has_server(alloc: Global, words: &Words) -> Result<bool, AllocError>
     ensures { IfOk result (λ some. some ≡ is_some (begin words.now)) }
 {
     Ok(server_for(alloc, words)?.is_some())
