@@ -275,15 +275,18 @@ def test_openings_as_text() -> None:
                 for each in (world, texts):
                     each.learn(who)
                 for number, name in enumerate(PATHS):
+                    opened += 1
                     task, flags = number % count, (1, 64, 129, 17, 256)[number % 5]
                     reply = world.open(task, name, port=1 + number % 2, flags=flags, mode=0o644)
                     assert texts.make(lines_in(world.told)) == world.told, (path, name)
                     answers = [line.lstrip("| ") for line in world.told.split("\n") if re.match(r"(\|   |  )(Found|Refused)", line)]
                     if reply.which == hurd.Which.PORT:
-                        assert f"Found Done {reply.number}" in answers, (path, name)
-                    else:
-                        assert reply.which == hurd.Which.REFUSED and (reply.error == hurd.Error.ELOOP or reply.error == hurd.Error.ENOENT or f"Refused {hurd.Error(reply.error).name}" in answers), (path, name)
-                    opened += 1
+                        assert answers[-1] == f"Found Done {reply.number}", (path, name)
+                        continue
+                    assert reply.which == hurd.Which.REFUSED, (path, name)
+                    # a refusal is that of a call, or the opening's own: too many lookups, a start that failed, or a magical name that leads nowhere
+                    own = {hurd.Error.ELOOP: world.told.count("dir_lookup") == 33, hurd.Error.ENOENT: "start_failed" in world.told or "MAGICAL" in answers[-1]}
+                    assert f"Refused {hurd.Error(reply.error).name}" in answers or own.get(hurd.Error(reply.error)), (path, name)
     assert opened > 1000
 
 
@@ -307,7 +310,7 @@ def test_openings_follow() -> None:
 
 
 def test_bad_openings() -> None:
-    """Flags that are unknown and paths that no line has are refused, and nothing changes."""
+    """Flags that are unknown and paths that have no line are refused, and nothing changes."""
     with World(FILE) as world:
         before = world.make("0 io_stat 3")
         raises(hurd.NoCall, lambda: world.open(0, b"motd", flags=512))
