@@ -159,7 +159,7 @@ typedef struct hurd_reply {
     uint32_t status;     /* HURD_DONE, HURD_MEMORY, HURD_NONE or HURD_NO_CALL */
     hurd_figures reply;
     size_t length;       /* how many bytes the reply has: more than were copied if there was too little room */
-    size_t told;         /* how many bytes hurd_told gives of what is learned from the call */
+    size_t told;         /* how many bytes hurd_told gives: of what is learned from the call, or of the calls of an opening */
 } hurd_reply;
 
 /* Makes one call, and copies the bytes of its reply as far as there is room. `bytes` are the data of io_write, the path of dir_lookup, the name of an entry; of

@@ -97,7 +97,7 @@ class NoCall(HurdError):
     """Numbers and bytes that make no call: it doesn't exist, has bits that no flag has or bytes of another form, or its line would be too long."""
 
     def __init__(self) -> None:
-        super().__init__("these numbers and bytes make no call")
+        super().__init__("these numbers and bytes make no call, or have no line")
 
 
 class Call(enum.IntEnum):

@@ -138,7 +138,7 @@ impl fmt::Display for Error {
             Error::BadText { reason, .. } | Error::Unknown { reason } => write!(f, "{}", String::from_utf8_lossy(reason)),
             Error::Refused { error } => write!(f, "the world could not be created: error {error}"),
             Error::NoMemory { .. } => write!(f, "out of memory"),
-            Error::NoCall { .. } => write!(f, "these numbers and bytes make no call"),
+            Error::NoCall { .. } => write!(f, "these numbers and bytes make no call, or have no line"),
             Error::Other { status } => write!(f, "the library ended with status {status}"),
         }
     }
