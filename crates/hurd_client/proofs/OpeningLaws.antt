@@ -5,13 +5,13 @@ use Rattle.std.proofs.lemmas.List.{length-append, take-append-le, take_all}
 use Rattle.std.proofs.lemmas.Option.{none-some, slice_get-get_or}
 use Rattle.hurd_creds.specs.declared.errno.Errno.{Errno}
 use Rattle.hurd_trans_iface.specs.Meaning.{Meaning}
-use Rattle.hurd_machine.specs.Calls.{Call, Reply}
+use Rattle.hurd_machine.specs.Calls.{Call, Reply, start_call}
 use Rattle.hurd_machine.specs.declared.call.Call.TheVariants.{Plain}
 use Rattle.hurd_machine.specs.declared.call.PlainCall.TheVariants.{DirLookup, IoReauthenticate, PortDeallocate}
 use Rattle.hurd_client.specs.declared.opening.OpenHow.{OpenHow}
 use Rattle.hurd_client.specs.Programs.{Prog, after_reply, gives, calls, asks, tried, bind, on_ok, made, closing, port_of}
 use Rattle.hurd_client.specs.Looking.{Opener, looked_of, arrived, begun, retried, followed, look, most_retries, open_node, start_at, start_with}
-use Rattle.hurd_client.specs.Openings.{IsNext, opening_after, opening_of, releasing, start_call, start_end}
+use Rattle.hurd_client.specs.Openings.{IsNext, opening_after, opening_of, releasing, start_end}
 use Rattle.hurd_client.specs.declared.answers.NextLookup.{NextLookup}
 use Rattle.hurd_client.specs.declared.opening.Next.TheVariants as next
 use Rattle.hurd_client.specs.declared.opening.NextCall.TheVariants as call

@@ -3,10 +3,10 @@ use Rattle.std.specs.Prelude.{◌≡◌, ◌<◌, ℕ, ◌+◌, ◌*◌, List, [
 use Rattle.hurd_creds.specs.declared.errno.Errno.{Errno}
 use Rattle.hurd_creds.specs.declared.errno.Errno.TheVariants.{ENOENT}
 use Rattle.hurd_trans_iface.specs.Meaning.{Meaning}
-use Rattle.hurd_machine.specs.Calls.{Call, Reply}
-use Rattle.hurd_machine.specs.declared.call.Call.TheVariants.{Plain, FsysStartup}
+use Rattle.hurd_machine.specs.Calls.{Reply}
+use Rattle.hurd_machine.specs.declared.call.Call.TheVariants.{Plain}
 use Rattle.hurd_machine.specs.declared.call.PlainCall.{PlainCall}
-use Rattle.hurd_machine.specs.declared.call.PlainCall.TheVariants.{DirLookup, IoReauthenticate, PortDeallocate, StartFailed}
+use Rattle.hurd_machine.specs.declared.call.PlainCall.TheVariants.{DirLookup, IoReauthenticate, PortDeallocate}
 use Rattle.hurd_client.specs.declared.opening.NextCall.{NextCall}
 use Rattle.hurd_client.specs.declared.opening.NextCall.TheVariants as call
 use Rattle.hurd_client.specs.declared.opening.Next.{Next}
@@ -63,12 +63,7 @@ call_of (call.DirLookup port name how) = DirLookup port name how.flags how.mode
 call_of (call.IoReauthenticate port) = IoReauthenticate port
 call_of (call.PortDeallocate port) = PortDeallocate port
 
--- the call that starts a translator with a server, or gives the start up without one
-abbrev pub start_call : Option Meaning → Call
-start_call (Some server) = FsysStartup server
-start_call None = Plain StartFailed
-
--- how that ended
+-- how the start of a translator ended, with a server or without one
 abbrev pub start_end : Option Meaning → Reply → Result (Unit {0}) Errno
 start_end (Some server) r = started_of r
 start_end None r = Err ENOENT

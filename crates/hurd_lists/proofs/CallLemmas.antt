@@ -5,11 +5,11 @@ use Rattle.hurd_trans_iface.specs.Meaning.{Meaning}
 use Rattle.hurd_machine.specs.declared.call.Call as call
 use Rattle.hurd_machine.specs.declared.call.Call.TheVariants.{Plain, FsysStartup}
 use Rattle.hurd_machine.specs.declared.call.PlainCall.TheVariants.{StartFailed}
-use Rattle.hurd_machine.specs.Calls.{call_by}
-use Rattle.hurd_lists.specs.Calls.{started, with_server}
+use Rattle.hurd_machine.specs.Calls.{call_by, start_call}
+use Rattle.hurd_lists.specs.Calls.{with_server}
 
 -- what a start with a server means
-started_by : {S : Type 0} (f : S → Meaning) (s : Option S) → call_by f (started s) ≡ started (option_map f s)
+started_by : {S : Type 0} (f : S → Meaning) (s : Option S) → call_by f (start_call s) ≡ start_call (option_map f s)
 started_by f None = refl
 started_by f (Some s) = refl
 

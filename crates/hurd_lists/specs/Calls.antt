@@ -2,7 +2,7 @@
 use Rattle.std.specs.Prelude.{ℕ, ◌+◌, List, [], ◌∷◌, Option, Some, None, if◌then◌else◌, bytes_eq, codes, drop, option_and_then, option_map, take}
 use Rattle.std.specs.List.{position}
 use Rattle.hurd_trans_iface.specs.Meaning.{Meaning, begin}
-use Rattle.hurd_machine.specs.Calls.{Call}
+use Rattle.hurd_machine.specs.Calls.{Call, start_call}
 use Rattle.hurd_machine.specs.declared.call.Call as machine
 use Rattle.hurd_machine.specs.declared.call.Setting.{Setting}
 use Rattle.hurd_machine.specs.declared.call.Call.TheVariants as call
@@ -299,14 +299,9 @@ server_of verb.FileSetTranslator args = brought (behind_box args)
 server_of verb.FsysStartup args = brought (behind_box args)
 server_of _ args = Some None
 
--- a start with this server; without one it is a start that failed
-abbrev pub started : {S : Type 0} → Option S → machine.Call S
-started (Some s) = call.FsysStartup s
-started None = (call.Plain plain.StartFailed)
-
 -- a call with this server in place of the one that it brings: a start without one is a start that failed
 abbrev pub with_server : {S : Type 0} → Option S → machine.Call S → machine.Call S
 with_server s (call.FileSetTranslator port setting words server) = call.FileSetTranslator port setting words s
-with_server s (call.FsysStartup server) = started s
-with_server s (call.Plain plain.StartFailed) = started s
+with_server s (call.FsysStartup server) = start_call s
+with_server s (call.Plain plain.StartFailed) = start_call s
 with_server s c = c

@@ -2,9 +2,9 @@
 ghost use Rattle.std.specs.Prelude.{◌≡◌, IfSome, Some, option_and_then, option_map};
 ghost use Rattle.hurd_words.specs.Reading.{Reads};
 ghost use Rattle.hurd_trans_iface.specs.Meaning.{Begins, begin};
-ghost use Rattle.hurd_machine.specs.Calls.{BringsBegun, call_by};
+ghost use Rattle.hurd_machine.specs.Calls.{BringsBegun, call_by, start_call};
 ghost use Rattle.hurd_lists.specs.Arguments.{ReadsInPlace, server_words};
-ghost use Rattle.hurd_lists.specs.Calls.{auth_makeauth, before_box, begun, behind_box, box_place, call_of, dir_link, dir_lookup, dir_mkdir, dir_mkfile, dir_rename, dir_rmdir, dir_unlink, entry, file_chmod, file_chown, file_set_size, file_set_translator, fsys_getroot, fsys_goaway, fsys_set_options, fsys_startup, io_identity, io_read, io_restrict_auth, io_seek, io_set_all_openmodes, io_write, lone, pair, port_receive, port_send, server_of, setting_of, start_failed, started, with_server};
+ghost use Rattle.hurd_lists.specs.Calls.{auth_makeauth, before_box, begun, behind_box, box_place, call_of, dir_link, dir_lookup, dir_mkdir, dir_mkfile, dir_rename, dir_rmdir, dir_unlink, entry, file_chmod, file_chown, file_set_size, file_set_translator, fsys_getroot, fsys_goaway, fsys_set_options, fsys_startup, io_identity, io_read, io_restrict_auth, io_seek, io_set_all_openmodes, io_write, lone, pair, port_receive, port_send, server_of, setting_of, start_failed, with_server};
 
 use crate::arguments::{
     bytes, goaway_flags, ids, long_number, mode, number, offset, open_flags, server_words, task,
@@ -495,9 +495,9 @@ pub fn server_of(alloc: Global, verb: Verb, args: &[Bytes]) -> Result<Option<Wor
     }
 }
 
-/// A start with this server; without one it is a start that failed.
-fn started<S>(server: Option<S>) -> Call<S>
-    ensures { result ≡ started server }
+/// The call that starts a translator with this server, or gives the start up without one.
+fn start_call<S>(server: Option<S>) -> Call<S>
+    ensures { result ≡ start_call server }
 {
     match server {
         Some(server) => Call::FsysStartup { server },
@@ -522,8 +522,8 @@ pub fn with_server<S: Server>(call: Call<S>, server: Option<S>) -> Call<S>
             words,
             server,
         },
-        Call::FsysStartup { server: _ } => started(server),
-        Call::Plain(PlainCall::StartFailed) => started(server),
+        Call::FsysStartup { server: _ } => start_call(server),
+        Call::Plain(PlainCall::StartFailed) => start_call(server),
         call => call,
     }
 }

@@ -2,7 +2,7 @@
 use Rattle.std.specs.Prelude.{◌≡◌, ℕ, List, [], ◌∷◌, Option, Some, Ok}
 use Rattle.hurd_creds.specs.declared.name.TaskId.{TaskId}
 use Rattle.hurd_trans_iface.specs.Meaning.{Meaning}
-use Rattle.hurd_lists.specs.Calls.{started}
+use Rattle.hurd_machine.specs.Calls.{start_call}
 use Rattle.hurd_lists.specs.Lists.{Listed, Standing, reading_of}
 use Rattle.hurd_numbers.specs.Calls.{numbered}
 use Rattle.hurd_numbers.specs.declared.calls.Numbers.{Numbers}
@@ -35,4 +35,4 @@ IsListed n bytes listed = (c : Listed) × (numbered n bytes ≡ Some c) × HasLi
 
 -- a task starts a translator with a server, or gives the start up without one
 abbrev pub start_of : TaskId → Option Meaning → Listed
-start_of task server = record { task = task; call = started server; line = [] }
+start_of task server = record { task = task; call = start_call server; line = [] }

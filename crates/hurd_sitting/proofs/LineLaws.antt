@@ -2,7 +2,7 @@
 use Rattle.std.proofs.Common.{◌≡◌, ◌∙◌, ℕ, Bool, true, false, List, [], Option, Some, None, nat_lt, refl, subst, sym}
 use Rattle.std.specs.Option.{is_some}
 use Rattle.std.proofs.lemmas.Option.{none-some, same_Some}
-use Rattle.hurd_client.specs.Openings.{start_call}
+use Rattle.hurd_machine.specs.Calls.{start_call}
 use Rattle.hurd_client.specs.declared.opening.OpenHow.{OpenHow}
 use Rattle.hurd_creds.specs.declared.name.TaskId.{TaskId}
 use Rattle.hurd_lists.specs.Lists.{Listed}

@@ -7,13 +7,13 @@ use Rattle.hurd_creds.specs.declared.errno.Errno.{Errno}
 use Rattle.hurd_creds.specs.declared.errno.Errno.TheVariants.{ENOENT}
 use Rattle.hurd_creds.specs.declared.name.TaskId.{TaskId}
 use Rattle.hurd_trans_iface.specs.Meaning.{Meaning, begin}
-use Rattle.hurd_machine.specs.Calls.{Call, Reply}
+use Rattle.hurd_machine.specs.Calls.{Call, Reply, start_call}
 use Rattle.hurd_machine.specs.World.{World}
 use Rattle.hurd_laws.specs.Step.{after, reply_of}
 use Rattle.hurd_lists.specs.Lists.{Listed}
 use Rattle.hurd_calls.specs.Making.{after_call}
 use Rattle.hurd_client.specs.Looking.{start_with}
-use Rattle.hurd_client.specs.Openings.{opening_after, start_call, start_end}
+use Rattle.hurd_client.specs.Openings.{opening_after, start_end}
 use Rattle.hurd_client.specs.Programs.{Prog, gives, calls, asks, after_reply, started_of}
 use Rattle.hurd_client.specs.declared.opening.Opening.{Opening}
 use Rattle.hurd_client.proofs.OpeningLaws.{starts}

@@ -4,13 +4,13 @@ use Rattle.std.specs.List.{All}
 use Rattle.hurd_creds.specs.declared.errno.Errno.{Errno}
 use Rattle.hurd_creds.specs.declared.name.TaskId.{TaskId}
 use Rattle.hurd_trans_iface.specs.Meaning.{Meaning, begin}
-use Rattle.hurd_machine.specs.Calls.{Call, Reply}
+use Rattle.hurd_machine.specs.Calls.{Call, Reply, start_call}
 use Rattle.hurd_machine.specs.World.{World}
 use Rattle.hurd_laws.specs.Step.{after, reply_of}
 use Rattle.hurd_lists.specs.Lists.{Listed, reading_of}
 use Rattle.hurd_client.specs.Programs.{Prog, gives, calls, asks}
 use Rattle.hurd_teaching.specs.declared.learners.Learners.{Learners}
-use Rattle.hurd_client.specs.Openings.{start_call, start_end}
+use Rattle.hurd_client.specs.Openings.{start_end}
 use Rattle.hurd_numbers.specs.Lines.{HasLine}
 use Rattle.hurd_numbers.specs.declared.calls.Numbers.{Numbers}
 use Rattle.hurd_sitting.specs.Replies.{Answers}

@@ -1,10 +1,11 @@
 //! Opening what a path leads to, and telling each call.
 ghost use Rattle.std.specs.Prelude.{◌≡◌, ◌⊎◌, IfErr, IfOk};
 ghost use Rattle.std.specs.Option.{is_some};
-ghost use Rattle.hurd_client.specs.Openings.{call_of, opening_of, start_call};
+ghost use Rattle.hurd_client.specs.Openings.{call_of, opening_of};
 ghost use Rattle.hurd_kinds.specs.Boxes.{box_meaning};
 ghost use Rattle.hurd_laws.specs.Step.{after};
 ghost use Rattle.hurd_lists.specs.Lists.{listed_by};
+ghost use Rattle.hurd_machine.specs.Calls.{start_call};
 ghost use Rattle.hurd_machine.specs.declared.call.Call.TheVariants.{Plain};
 ghost use Rattle.hurd_numbers.specs.Lines.{HasLine};
 ghost use Rattle.hurd_trans_iface.specs.Meaning.{begin};
