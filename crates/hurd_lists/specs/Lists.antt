@@ -8,7 +8,8 @@ use Rattle.hurd_words.specs.Lines.{is_skipped, lines_of}
 use Rattle.hurd_words.specs.Reading.{good_words}
 use Rattle.hurd_words.specs.Users.{begins_with}
 use Rattle.hurd_trans_iface.specs.Meaning.{Meaning}
-use Rattle.hurd_machine.specs.Calls.{Call, call_by}
+use Rattle.hurd_machine.specs.Calls as machine
+use Rattle.hurd_machine.specs.Calls.{call_by}
 use Rattle.hurd_creds.specs.declared.name.TaskId.{TaskId}
 use Rattle.hurd_creds.specs.Limits.{most_script, most_tasks}
 use Rattle.hurd_lists.specs.Arguments.{ids_of, task_of, text_of}
@@ -24,6 +25,8 @@ use Rattle.hurd_lists.specs.declared.flaw.ListFlaw.TheVariants.{Length, Word, Ta
 use Rattle.hurd_lists.specs.declared.reader.CallList.{CallList}
 use Rattle.hurd_lists.specs.declared.reader.ListFault.{ListFault}
 use Rattle.hurd_lists.specs.declared.reader.ListFault.TheVariants as fault
+use Rattle.hurd_lists.specs.declared.reader.LineSaid.{LineSaid}
+use Rattle.hurd_lists.specs.declared.reader.LineSaid.TheVariants.{Nothing, Task, Call}
 use Rattle.hurd_lists.specs.declared.reader.ListedCall.{ListedCall}
 
 -- a line without outer spaces
@@ -33,7 +36,7 @@ trimmed line = without_end (skip_spaces line)
 -- what a line says: a task makes a call; and the line itself
 pub record Listed : Type 0 where
   pub task : TaskId
-  pub call : Call
+  pub call : machine.Call
   pub line : List ℕ
 
 -- the call of a name, if there is one
@@ -56,9 +59,13 @@ pub record Standing : Type 0 where
   pub calls : List Listed
 
 -- with a task of these ids more
+abbrev pub said_task : Standing → IdSets → Standing
+said_task s ids = record s { tasks = s.tasks ++ ids ∷ [] }
+
+-- the same, if ids were read
 abbrev pub with_ids : Standing → Result IdSets ListFlaw → Result Standing ListFlaw
 with_ids s (Err flaw) = Err flaw
-with_ids s (Ok ids) = Ok (record s { tasks = s.tasks ++ ids ∷ [] })
+with_ids s (Ok ids) = Ok (said_task s ids)
 
 -- with what a task line says, unless a call came, or there are as many tasks as may be
 abbrev pub with_task : Standing → List (List ℕ) → Result Standing ListFlaw
@@ -106,6 +113,12 @@ reading_of list =
 -- what a call says that was read, where each box means this: the server of its words is in it
 abbrev pub listed_by : {S : Type 0} → (S → Meaning) → ListedCall S → Listed
 listed_by f c = record { task = c.task; call = with_server (begun c.server) (call_by f c.call); line = c.line }
+
+-- what was said so far, and what a line says that was read, where each box means this
+abbrev pub said_onto : {S : Type 0} → (S → Meaning) → Standing → LineSaid S → Standing
+said_onto f s Nothing = s
+said_onto f s (Task ids) = said_task s ids
+said_onto f s (Call c) = record s { calls = s.calls ++ listed_by f c ∷ [] }
 
 -- what is in a list that was read
 abbrev pub said_by : {S : Type 0} → (S → Meaning) → CallList S → Standing

@@ -1,5 +1,5 @@
 //! Reading a list of calls.
-ghost use Rattle.std.specs.Prelude.{◌≡◌, ◌==◌, codes};
+ghost use Rattle.std.specs.Prelude.{◌≡◌, ◌==◌, codes, length, not};
 ghost use Rattle.std.specs.List.{slice_split};
 ghost use Rattle.hurd_words.specs.Reading.{good_words, said};
 ghost use Rattle.hurd_words.specs.Users.{begins_with};
@@ -8,7 +8,7 @@ ghost use Rattle.hurd_lists.specs.Calls.{begun, call_of, server_of};
 ghost use Rattle.hurd_lists.specs.Flaws.{Gives, found_or};
 ghost use Rattle.hurd_lists.specs.Words.{bytes_of};
 ghost use Rattle.hurd_machine.specs.Calls.{call_by};
-ghost use Rattle.hurd_lists.specs.Lists.{Parses, call_from, fault_at, listed_by, read_from, reading_of, said_by, unsaid, verb_named, with_call, with_line, with_task};
+ghost use Rattle.hurd_lists.specs.Lists.{Parses, Standing, call_from, fault_at, listed_by, read_from, reading_of, said_by, said_onto, said_task, unsaid, verb_named, with_line, with_task};
 
 use crate::arguments::{ids, task, text};
 use crate::calls::{call_of, server_of};
@@ -33,6 +33,16 @@ pub struct ListedCall<S = Box<dyn Server>> {
     pub line: Bytes,
     /// The words of the server that it brings, if it brings one.
     pub server: Option<Words>,
+}
+
+/// What a line of a list says.
+#[derive(Drop)]
+pub enum LineSaid<S = Box<dyn Server>> {
+    /// Nothing: it is empty, only spaces, or a comment.
+    Nothing,
+    /// There is a task with these ids.
+    Task(Ids),
+    Call(ListedCall<S>),
 }
 
 /// A list of calls that was read.
@@ -73,46 +83,52 @@ impl<S: Server> CallList<S> {
         }
     }
 
-    /// Reads a task line's words.
-    fn take_task(&mut self, alloc: Global, words: &[Bytes]) -> Result<(), LineFault>
-        ensures { Gives (λ _. said_by S.meaning self.new) (with_task (said_by S.meaning self.old) words.now) result }
-    {
-        let [_, uids, gids] = words else {
-            return Err(LineFault::Bad(ListFlaw::TaskForm));
-        };
-        if !self.calls.is_empty() {
-            return Err(LineFault::Bad(ListFlaw::LateTask));
-        }
-        if self.tasks.len() >= MOST_TASKS {
-            return Err(LineFault::Bad(ListFlaw::TaskCount));
-        }
-        let ids = ids_on(alloc, uids.as_slice(), gids.as_slice())?;
-        self.tasks.push(ids)?;
-        Ok(())
-    }
-
-    /// Reads a call line, of these words.
-    fn take_call(&mut self, alloc: Global, line: &[u8], words: &[Bytes]) -> Result<(), LineFault>
-        ensures { Gives (λ _. said_by S.meaning self.new) (with_call (said_by S.meaning self.old) (call_from line.now words.now)) result }
-    {
-        let call = call_on(alloc, line, words)?;
-        self.calls.push(call)?;
-        Ok(())
-    }
-
     /// Reads a line.
     fn take_line(&mut self, alloc: Global, line: &[u8]) -> Result<(), LineFault>
         ensures { Gives (λ _. said_by S.meaning self.new) (with_line (said_by S.meaning self.old) line.now) result }
     {
-        if is_skipped(line) {
-            return Ok(());
+        match read_line(alloc, self.tasks.len(), !self.calls.is_empty(), line)? {
+            LineSaid::Nothing => {}
+            LineSaid::Task(ids) => self.tasks.push(ids)?,
+            LineSaid::Call(call) => self.calls.push(call)?,
         }
-        let words = words_on(alloc, line)?;
-        if is_task_line(words.as_slice()) {
-            self.take_task(alloc, words.as_slice())
-        } else {
-            self.take_call(alloc, line, words.as_slice())
-        }
+        Ok(())
+    }
+}
+
+/// The ids of a task line's words, after so many tasks; `late` if a call came before it.
+fn task_said(alloc: Global, tasks: usize, late: bool, words: &[Bytes]) -> Result<Ids, LineFault>
+    ensures { (s : Standing) → length s.tasks ≡ tasks → not (length s.calls == 0) ≡ late → Gives (said_task s) (with_task s words.now) result }
+{
+    let [_, uids, gids] = words else {
+        return Err(LineFault::Bad(ListFlaw::TaskForm));
+    };
+    if late {
+        return Err(LineFault::Bad(ListFlaw::LateTask));
+    }
+    if tasks >= MOST_TASKS {
+        return Err(LineFault::Bad(ListFlaw::TaskCount));
+    }
+    ids_on(alloc, uids.as_slice(), gids.as_slice())
+}
+
+/// Reads a line of a list, after so many tasks; `late` if a call came before it. Errors as of `parse_calls`.
+pub fn read_line<S: Server>(
+    alloc: Global,
+    tasks: usize,
+    late: bool,
+    line: &[u8],
+) -> Result<LineSaid<S>, LineFault>
+    ensures { (s : Standing) → length s.tasks ≡ tasks → not (length s.calls == 0) ≡ late → Gives (said_onto S.meaning s) (with_line s line.now) result }
+{
+    if is_skipped(line) {
+        return Ok(LineSaid::Nothing);
+    }
+    let words = words_on(alloc, line)?;
+    if is_task_line(words.as_slice()) {
+        Ok(LineSaid::Task(task_said(alloc, tasks, late, words.as_slice())?))
+    } else {
+        Ok(LineSaid::Call(call_on(alloc, line, words.as_slice())?))
     }
 }
 

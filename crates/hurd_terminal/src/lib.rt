@@ -5,6 +5,8 @@
 //! 0 where all was printed, 1 for a bad text or where somebody is named who isn't in it, 2 for all else. What a whole run is to have printed is written in `specs/Runs`,
 //! over what the program makes of a text.
 //!
+//! A program that reads a text of any length takes what each read gives: `Input::long` and `Input::read_more`.
+//!
 //! It knows no text and no part: those are the programs'.
 #![tactic(auto)]
 

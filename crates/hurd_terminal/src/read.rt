@@ -9,7 +9,7 @@ use hurd_creds::{Bytes, MOST_SCRIPT};
 use std::alloc::Global;
 use std::io::{ErrorKind, Read};
 
-/// How many reads are made at most.
+/// How many reads are made of a text at most.
 const MOST_READS: u32 = 2_097_152;
 
 /// How many bytes are read at most: one more than a text may have.
@@ -41,10 +41,21 @@ impl<R: Read> Input<R> {
         }
     }
 
+    /// This reader, of which 4,294,967,295 reads may be made: for a text of any length.
+    pub fn long(reader: R) -> Input<R>
+        ensures { result ≡ record { reader = reader; reads_left = 4294967295; failed = false } }
+    {
+        Input {
+            reader,
+            reads_left: u32::MAX,
+            failed: false,
+        }
+    }
+
     /// Makes one read, and adds what it gives to a text; tells whether there may be more. An interrupted read gives nothing.
     ///
     /// `Read` where the read fails, or none may be made; else `Memory`.
-    fn read_more(&mut self, buffer: &mut [u8], text: &mut Vec<u8>) -> Result<bool, Fault>
+    pub fn read_more(&mut self, buffer: &mut [u8], text: &mut Vec<u8>) -> Result<bool, Fault>
         requires { 0 < length buffer.old }
         ensures ok { IfOk result (λ goes_on. (bytes : List ℕ)
             × Consumes (R.remaining self.old.reader) (R.remaining self.new.reader) bytes × (text.new.items ≡ text.old.items ++ bytes)

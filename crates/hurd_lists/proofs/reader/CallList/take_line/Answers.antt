@@ -1,13 +1,12 @@
-use Rattle.std.proofs.Common.{◌≡◌, false, ◌∙◌, sym, ap, Ok, codes}
-use Rattle.hurd_words.specs.Users.{begins_with}
-use Rattle.hurd_lists.specs.Lists.{said_by}
-use Rattle.hurd_lists.proofs.ListLemmas.{call_line}
+use Rattle.std.proofs.Common.{◌≡◌, ◌==◌, ℕ, length, not, sym, ap, ◌∙◌}
+use Rattle.std.proofs.lemmas.List.{length-map}
+use Rattle.std.proofs.lemmas.Result.{err_from_is_err_and}
+use Rattle.hurd_lists.specs.Lists.{listed_by, said_by}
 use Rattle.hurd_lists.proofs.reader.CallList.take_line.Goals as goal
 
-pub returns : goal.returns
-returns g c =
-    let words = c.as_slice-else-is_task_line.result.now in
-    let same = c.as_slice-else-is_task_line.ensures.value in
-    let no_task : begins_with (codes "task") words ≡ false = ap (begins_with (codes "task")) (same ∙ sym c.as_slice.ensures.value) ∙ (sym c.is_task_line.ensures ∙ c.if-is_task_line.false) in
-    rw (call_line (said_by g.S.Server.meaning c.args.self.now) c.args.line.now words (sym c.is_skipped.ensures ∙ c.if-is_skipped.false) (c.in_ok-words.ensures ∙ ap Ok (sym same)) no_task)
-    c.take_call.ensures
+pub returns-in_err-read_line : goal.returns-in_err-read_line
+returns-in_err-read_line g c =
+    let list = c.args.self.now in
+    let none = ap (λ (n : ℕ). n == 0) (length-map list.calls.items (listed_by g.S.Server.meaning) ∙ sym list.calls.ok.0) ∙ sym c.is_empty.ensures in
+    let p = err_from_is_err_and c.from_residual.result c.from_residual.ensures.1 in
+    rw (p.1, p.2) (c.in_err-read_line.ensures (said_by g.S.Server.meaning list) (sym (c.len.ensures ∙ list.tasks.ok.0)) (ap not none))
