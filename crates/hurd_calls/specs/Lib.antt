@@ -3,3 +3,4 @@ pub mod Faults
 pub mod Readings
 pub mod Tasks
 pub mod Lists
+pub mod Running

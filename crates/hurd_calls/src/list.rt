@@ -1,13 +1,19 @@
 //! A list of calls on its way.
-ghost use Rattle.std.specs.Prelude.{◌≡◌, ◌+◌, ◌<◌, ◌≤◌, length};
+ghost use Rattle.std.specs.Prelude.{◌≡◌, ◌+◌, ◌<◌, ◌≤◌, IfErr, IfOk, OnOk, length};
 ghost use Rattle.std.specs.Option.{option_map};
 ghost use Rattle.hurd_creds.specs.declared.name.TaskId.{TaskId};
+ghost use Rattle.hurd_kinds.specs.Boxes.{box_meaning};
+ghost use Rattle.hurd_lists.specs.Lists.{listed_by};
+ghost use Rattle.hurd_machine.specs.Sound.{Sound};
+ghost use Rattle.hurd_tmpfs.specs.Tree.{new_tmpfs};
+ghost use Rattle.hurd_calls.specs.Faults.{NotBegun};
 ghost use Rattle.hurd_calls.specs.Lists.{lists, way_of};
+ghost use Rattle.hurd_calls.specs.Running.{BeginsOver, given, way_in};
 ghost use Rattle.hurd_calls.specs.Tasks.{noun_of, task_of};
 
 use crate::beginning::{begun, complaint_of, parsed};
 use crate::calling::{answer, brought};
-use hurd_creds::{TaskId, number};
+use hurd_creds::{Ids, TaskId, number};
 use hurd_dialogue::{Telling, boxed};
 use hurd_kinds::{ServerBox, empty_tree};
 use hurd_lists::{CallList, ListedCall};
@@ -44,6 +50,39 @@ pub fn task_of(count: usize, word: &str) -> Option<TaskId>
         Some(TaskId(task))
     } else {
         None
+    }
+}
+
+impl RunningCalls {
+    /// Begins a list of tasks with these ids, which has no calls yet.
+    ///
+    /// Errors, in order: `Boot` with its world's refusal; `Memory` at any point.
+    #[tactic(auto, unfolding(hurd_kinds::specs::Boxes::box_meaning))]
+    pub fn over(alloc: Global, tasks: Vec<Ids>) -> Result<Box<RunningCalls>, Fault>
+        ensures ok { IfOk result (λ running. BeginsOver tasks.items (way_in running.value)) }
+        ensures sound { IfOk result (λ running. Sound (way_in running.value).world) }
+        ensures err { IfErr result (λ fault. NotBegun new_tmpfs tasks.items fault) }
+    {
+        let count = tasks.len();
+        let root = ServerBox::Tmpfs(empty_tree(alloc)?);
+        let world = begun(alloc, root, tasks)?;
+        let running = RunningCalls {
+            world,
+            calls: VecDeque::new(alloc),
+            told: 0,
+            tasks: count,
+        };
+        Ok(boxed(alloc, running)?)
+    }
+
+    /// Has this call alone to tell next, as if it were the first. Fails only if memory runs out.
+    pub fn take(&mut self, listed: ListedCall<ServerBox>) -> Result<(), AllocError>
+        ensures { OnOk result (way_in self.new ≡ given (listed_by box_meaning listed) (way_in self.old)) }
+    {
+        self.calls.clear();
+        self.told = 0;
+        self.calls.push_back(listed)?;
+        Ok(())
     }
 }
 

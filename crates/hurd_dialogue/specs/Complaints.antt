@@ -20,11 +20,15 @@ shown bytes = concat (map shown_byte bytes)
 abbrev pub shown_line : List ℕ → List ℕ
 shown_line line = shown (take 200 line) ++ text_if (nat_lt 200 (length line)) (codes " ..")
 
--- what is said after a file's name of a bad line: its number, what the text is, and a reason; at line 0 the reason alone
+-- what is said after a file's name of a bad line: its number, what the text is, a reason, and the line
+abbrev pub complaint_on : List ℕ → List ℕ → ℕ → List ℕ → List ℕ
+complaint_on noun line number reason = codes ":" ++ (decimal number ++ (noun ++ (reason ++ (codes "\n  " ++ (shown_line line ++ codes "\n")))))
+
+-- the same of the line with this number of a text; at line 0 the reason alone
 abbrev pub complaint_at : List ℕ → List ℕ → ℕ → List ℕ → List ℕ
 complaint_at noun text line reason =
     if line == 0 then codes ": " ++ (reason ++ codes "\n")
-    else codes ":" ++ (decimal line ++ (noun ++ (reason ++ (codes "\n  " ++ (shown_line (line_at text line) ++ codes "\n")))))
+    else complaint_on noun (line_at text line) line reason
 
 -- the same of a text that may be bad, at this line and for this reason
 abbrev pub complaint_by : List ℕ → List ℕ → Option ℕ → Option (List ℕ) → List ℕ

@@ -1,6 +1,6 @@
 //! What is said of a bad line.
 ghost use Rattle.std.specs.Prelude.{◌≡◌, ◌++◌, IfOk, OnOk, take};
-ghost use Rattle.hurd_dialogue.specs.Complaints.{complaint_at, line_at, shown, shown_byte, shown_line};
+ghost use Rattle.hurd_dialogue.specs.Complaints.{complaint_at, complaint_on, line_at, shown, shown_byte, shown_line};
 
 use hurd_words::escapes::push_escaped;
 use hurd_words::printing::push_if;
@@ -63,8 +63,28 @@ pub fn push_shown_line(text: &mut Vec<u8>, line: &[u8]) -> Result<(), AllocError
     push_if(text, line.len() > MOST_SHOWN, " ..")
 }
 
-/// What is said after a file's name of a text that is bad at a line for this reason: the line's number, what the text is, as `: bad script: `, the
-/// reason, and below that the line; at line 0 the reason alone. Fails only if memory runs out.
+/// What is said after a file's name of a bad line with this number: the number, what the text is, as `: bad script: `, the reason, and below that the line.
+/// Fails only if memory runs out.
+pub fn complaint_on(
+    alloc: Global,
+    noun: &str,
+    line: &[u8],
+    number: u64,
+    reason: &str,
+) -> Result<Vec<u8>, AllocError>
+    ensures { IfOk result (λ c. c.items ≡ complaint_on noun.now line.now number reason.now) }
+{
+    let mut said = Vec::from_slice(alloc, b":")?;
+    said.extend_from_slice(Buffer::new().format(number).as_bytes())?;
+    said.extend_from_slice(noun.as_bytes())?;
+    said.extend_from_slice(reason.as_bytes())?;
+    said.extend_from_slice(b"\n  ")?;
+    push_shown_line(&mut said, line)?;
+    said.push(b'\n')?;
+    Ok(said)
+}
+
+/// The same of a text that is bad at a line for this reason; at line 0 the reason alone. Fails only if memory runs out.
 pub fn complaint(
     alloc: Global,
     noun: &str,
@@ -80,12 +100,5 @@ pub fn complaint(
         said.push(b'\n')?;
         return Ok(said);
     }
-    let mut said = Vec::from_slice(alloc, b":")?;
-    said.extend_from_slice(Buffer::new().format(line).as_bytes())?;
-    said.extend_from_slice(noun.as_bytes())?;
-    said.extend_from_slice(reason.as_bytes())?;
-    said.extend_from_slice(b"\n  ")?;
-    push_shown_line(&mut said, line_at(alloc, text, line)?)?;
-    said.push(b'\n')?;
-    Ok(said)
+    complaint_on(alloc, noun, line_at(alloc, text, line)?, line, reason)
 }

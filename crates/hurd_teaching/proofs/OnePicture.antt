@@ -108,7 +108,7 @@ drawn_once names marked w s t x y =
     x.is.is ∙ (titles ∙ (view ∙ (seen ∙ (wide ∙ sym y.is.is))))
 
 -- the same tasks are called the same
-for_once : (sort : Sort) (can : Bool) (who : Option (List ℕ)) (text s t : List ℕ) → DrawnFor sort can who text s → DrawnFor sort can who text t → s ≡ t
+for_once : (sort : Sort) (can : Bool) (who : Option (List ℕ)) (text s t : List ℕ) → DrawnFor (AreThese sort) sort can who text s → DrawnFor (AreThese sort) sort can who text t → s ≡ t
 for_once sort can None text s t x y = drawn_once (sort.names text) None (last_world sort text) s t x y
 for_once sort can (Some word) text s t x y =
     let same = alike _ _ _ _ x.0 y.0 x.1 y.1 in

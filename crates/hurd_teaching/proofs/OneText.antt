@@ -16,7 +16,7 @@ use Rattle.hurd_teaching.specs.Learners.{AreNamed, Speech, is_quiet, numbers, se
 use Rattle.hurd_teaching.specs.Lessons.{LessonsOf, told_text}
 use Rattle.hurd_teaching.specs.Limits.{all_shortened, shortened, shortened_said}
 use Rattle.hurd_teaching.specs.Looks.{is_due}
-use Rattle.hurd_teaching.specs.Programs.{PrintsOneText, SeenAtEnd, learning, seeing}
+use Rattle.hurd_teaching.specs.Programs.{AreThese, PrintsOneText, SeenAtEnd, learning, seeing}
 use Rattle.hurd_teaching.specs.Shown.{Front, FrontOfSome, Whole, last_of}
 use Rattle.hurd_teaching.specs.Telling.{Shows}
 use Rattle.hurd_teaching.specs.declared.learners.Learners.{Learners}
@@ -137,7 +137,7 @@ one_text_is_printed sort most word = record {
 }
 
 -- and what some see at the end is one text, and any part of it a front
-seen_once : (sort : Sort) (most : Option ℕ) (word text s t : List ℕ) → SeenAtEnd sort most word text s → SeenAtEnd sort most word text t → s ≡ t
+seen_once : (sort : Sort) (most : Option ℕ) (word text s t : List ℕ) → SeenAtEnd (AreThese sort word) sort most text s → SeenAtEnd (AreThese sort word) sort most text t → s ≡ t
 seen_once sort most word text s t x y =
     let a = alike _ _ _ _ x.0 y.0 x.1 y.1 in
     let w = last_world sort text in

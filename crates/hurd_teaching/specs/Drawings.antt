@@ -68,10 +68,10 @@ pub record IsDrawn (names : List (List ℕ)) (marked : Option Marked) (w : World
   pub is : IsPicture names (called_of marked) seen wide w text
 
 -- the picture of a text at its end, marked with what WHO see, and with what others could show them, if that is wanted
-abbrev pub DrawnFor : Sort → Bool → Option (List ℕ) → List ℕ → List ℕ → Type 0
-DrawnFor sort can None text printed = IsDrawn (sort.names text) None (last_world sort text) printed
-DrawnFor sort can (Some word) text printed =
-    (learners : Learners) × AreThese sort word text learners
+abbrev pub DrawnFor : (List ℕ → List ℕ → Learners → Type 0) → Sort → Bool → Option (List ℕ) → List ℕ → List ℕ → Type 0
+DrawnFor Are sort can None text printed = IsDrawn (sort.names text) None (last_world sort text) printed
+DrawnFor Are sort can (Some word) text printed =
+    (learners : Learners) × Are word text learners
     × IsDrawn (sort.names text) (Some (marked_by can learners (last_world sort text))) (last_world sort text) printed
 
 -- what is said where one of these isn't in a text
@@ -84,14 +84,17 @@ abbrev pub are_known : Sort → Option (List ℕ) → List ℕ → Bool
 are_known sort None text = true
 are_known sort (Some word) text = is_some (tasks_named (sort.finds text) word)
 
--- the program that prints it
-abbrev pub drawing : Sort → Bool → Option (List ℕ) → Program
-drawing sort can who = record {
+-- the program that prints it, by who those are that a word names of a text
+abbrev pub drawing_by : (List ℕ → List ℕ → Learners → Type 0) → Sort → Bool → Option (List ℕ) → Program
+drawing_by Are sort can who = record {
   complaint = sort.complaint;
   stranger = stranger_of sort who;
   bad = sort.bad;
   boot = sort.boot;
   known = are_known sort who;
-  IsAll = λ text printed. DrawnFor sort can who text printed;
-  IsPart = λ text printed. (all : List ℕ) × DrawnFor sort can who text all × IsFront printed all;
+  IsAll = λ text printed. DrawnFor Are sort can who text printed;
+  IsPart = λ text printed. (all : List ℕ) × DrawnFor Are sort can who text all × IsFront printed all;
 }
+
+abbrev pub drawing : Sort → Bool → Option (List ℕ) → Program
+drawing sort can who = drawing_by (AreThese sort) sort can who

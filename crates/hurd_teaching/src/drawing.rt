@@ -45,8 +45,8 @@ fn picture_of<S: Server>(
     picture(alloc, &titles, tasks.as_slice(), &view, who, theirs, wide)
 }
 
-/// The same, in which nobody is marked. Fails only if memory runs out.
-fn plain_picture<S: Server>(
+/// The picture of a world whose tasks have these names, in which nobody is marked. Fails only if memory runs out.
+pub fn plain_picture<S: Server>(
     alloc: Global,
     world: &World<S>,
     names: Vec<Bytes>,
@@ -57,7 +57,7 @@ fn plain_picture<S: Server>(
 }
 
 /// The same, in which it is marked what some see. Fails only if memory runs out.
-fn marked_picture<S: Server>(
+pub fn marked_picture<S: Server>(
     alloc: Global,
     world: &World<S>,
     names: Vec<Bytes>,
@@ -89,8 +89,8 @@ fn wide_view<S: Server>(
     view_of(alloc, world, aides.as_slice())
 }
 
-/// The picture in which it is marked what some see, and what others could show them. Fails only if memory runs out.
-fn helped_picture<S: Server>(
+/// The same, in which it is marked what some see, and what others could show them. Fails only if memory runs out.
+pub fn helped_picture<S: Server>(
     alloc: Global,
     world: &World<S>,
     names: Vec<Bytes>,

@@ -25,16 +25,18 @@ mod telling;
 mod watch;
 
 pub use aides::is_root_task;
-pub use drawing::draw_text;
+pub use drawing::{draw_text, helped_picture, marked_picture, plain_picture};
 pub use laws::{
     lessons_are_sentences, one_picture_is_drawn, one_sight_is_printed, one_text_is_printed,
     outputs_are_read_back, shortened_are_sentences,
 };
 pub use learners::Learners;
 pub use learning::learn_text;
-pub use naming::{Naming, learners_of, tasks_of};
+pub use limits::shortened;
+pub use naming::{Naming, learners_at_once, learners_of, tasks_of};
 pub use owners::{all_tasks, copied_names};
 pub use seeing::{look, reached, seen, view_of};
 pub use sights::see_text;
-pub use telling::{look_before, paragraph, said, said_if_moved};
+pub use steps::tell_next;
+pub use telling::{look_before, paragraph, said, said_if_moved, shown};
 pub use watch::Watch;

@@ -47,7 +47,7 @@ fn push_more(text: &mut Vec<u8>, who: &[u8], count: usize) -> Result<(), AllocEr
 
 /// What is printed of a text about somebody, if at most so many bytes of it are: all of it; or, if it is longer, the whole lines that have room, and how many
 /// bytes more there are. Fails only if memory runs out.
-pub(crate) fn shortened(
+pub fn shortened(
     alloc: Global,
     most: Option<usize>,
     who: &[u8],

@@ -1,5 +1,5 @@
 //! Those that WHO names.
-ghost use Rattle.std.specs.Prelude.{◌≡◌, IfOk, List, Option, Vec, drop, ℕ};
+ghost use Rattle.std.specs.Prelude.{◌≡◌, [], IfOk, List, Option, Vec, drop, ℕ};
 ghost use Rattle.std.specs.Global.{Global};
 ghost use Rattle.std.specs.Option.{option_map};
 ghost use Rattle.hurd_creds.specs.declared.name.TaskId.{TaskId};
@@ -61,6 +61,22 @@ pub fn tasks_of<N: Naming>(
         }
     }
     Ok(Some(tasks))
+}
+
+/// Those whose names stand in a word between commas, of a text that was begun: lessons begin at once, and what they see is not asked for. None where one of
+/// them isn't in it. Fails only if memory runs out.
+pub fn learners_at_once<T: Telling>(
+    alloc: Global,
+    telling: &T,
+    word: &str,
+) -> Result<Option<Learners>, AllocError>
+    ensures { IfOk result (λ learners. Named (tasks_named (T.way telling.now).finds word.now) (T.sort.called word.now) [] 0 learners) }
+{
+    let Some(tasks) = tasks_of(alloc, telling, word)? else {
+        return Ok(None);
+    };
+    let names = T::called(alloc, word, tasks.as_slice())?;
+    Ok(Some(Learners::called(alloc, tasks, names, Vec::new(alloc), 0)?))
 }
 
 /// Those whose names stand in a word between commas, of a text that was begun, with where it asks what they see, and where lessons begin; none where one of

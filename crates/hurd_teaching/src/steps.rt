@@ -51,7 +51,7 @@ fn looked<T: Telling>(
 /// that is limited; and counts what they learn. Whether there was one.
 ///
 /// `Write` where it can't be written: then only some first bytes of it were; `Memory`.
-fn step<T: Telling, W: Write>(
+pub fn tell_next<T: Telling, W: Write>(
     alloc: Global,
     telling: &mut T,
     most: Option<usize>,
@@ -104,7 +104,7 @@ pub(crate) fn tell_all<T: Telling, W: Write>(
         (W.contents output.old.writer) (W.contents output.new.writer)) }
 {
     'steps: loop {
-        if !step(alloc, telling, most, learners, watch, tally, output)? {
+        if !tell_next(alloc, telling, most, learners, watch, tally, output)? {
             return Ok(());
         }
     }

@@ -83,7 +83,7 @@ pub fn said_if_moved<S: Server>(
 }
 
 /// What is shown after what was done: all that these see, where that is asked for. Fails only if memory runs out.
-pub(crate) fn shown<S: Server>(
+pub fn shown<S: Server>(
     alloc: Global,
     world: &World<S>,
     learners: &Learners,

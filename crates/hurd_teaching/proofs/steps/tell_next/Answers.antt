@@ -5,8 +5,8 @@ use Rattle.hurd_teaching.proofs.StepLaws.{none_told, part_cut, part_told}
 use Rattle.hurd_touches.specs.Touched.{listed}
 use Rattle.hurd_teaching.specs.Watched.{misses}
 use Rattle.hurd_teaching.proofs.UnmovedLaws.{still_sees}
-use Rattle.hurd_teaching.proofs.steps.step.Goals.{then-not-quiet, else-not-quiet}
-use Rattle.hurd_teaching.proofs.steps.step.Goals as goal
+use Rattle.hurd_teaching.proofs.steps.tell_next.Goals.{then-not-quiet, else-not-quiet}
+use Rattle.hurd_teaching.proofs.steps.tell_next.Goals as goal
 
 pub returns-in_err-quiet-clause-err : goal.returns-in_err-quiet-clause-err
 returns-in_err-quiet-clause-err g c =
