@@ -17,7 +17,7 @@ use Rattle.hurd_pictures.specs.Servers.{box_label}
 use Rattle.hurd_pictures.specs.Tasks.{ids_text, open_at, task_node}
 use Rattle.hurd_pictures.specs.declared.names.Owner.{Owner}
 use Rattle.hurd_pictures.specs.declared.names.Titles.{Titles}
-use Rattle.hurd_teaching.specs.Programs.{PrintsOneText}
+use Rattle.hurd_teaching.specs.Programs.{AreThese, PrintsOneText}
 use Rattle.hurd_teaching.specs.declared.learners.Learners.{Learners}
 use Rattle.hurd_teaching.proofs.OneText.{AreAlike, alike}
 use Rattle.hurd_terminal.specs.Faults.{IsFront}
