@@ -50,6 +50,16 @@ fn most_look<'a>(alloc: Global) -> Arg<'a> {
     )
 }
 
+/// The option of verbs that read a record. Fails only if memory runs out.
+fn record<'a>(alloc: Global) -> Arg<'a> {
+    Arg::new(alloc, "record")
+        .long("record")
+        .action(ArgAction::SetTrue)
+        .help(
+            "Treat FILE as a record: a call list of any length, whose calls are made as it is read",
+        )
+}
+
 /// A verb for one text. Fails only if memory runs out.
 fn verb<'a>(alloc: Global, name: &'a str, about: &'a str) -> Result<Command<'a>, AllocError> {
     let calls = Arg::new(alloc, "calls")
@@ -71,6 +81,7 @@ fn run<'a>(alloc: Global) -> Result<Command<'a>, AllocError> {
         "Print the transcript of a script or call list",
     )?
     .arg(json)?
+    .arg(record(alloc).conflicts_with("json")?)?
     .arg(most_output(alloc))?
     .arg(word(alloc, "FILE", FILE))
 }
@@ -89,6 +100,7 @@ fn learn<'a>(alloc: Global) -> Result<Command<'a>, AllocError> {
         "Print the transcript and, after each command by others, what WHO learn from it",
     )?
     .arg(how)?
+    .arg(record(alloc).conflicts_with("how")?)?
     .arg(most_look(alloc))?
     .arg(most_output(alloc))?
     .arg(word(alloc, "WHO", WHO))?
@@ -154,6 +166,7 @@ fn compare<'a>(alloc: Global) -> Result<Command<'a>, AllocError> {
 /// The verb for what is seen. Fails only if memory runs out.
 fn see<'a>(alloc: Global) -> Result<Command<'a>, AllocError> {
     verb(alloc, "see", "Print everything that WHO can see at the end")?
+        .arg(record(alloc))?
         .arg(most_look(alloc))?
         .arg(most_output(alloc))?
         .arg(word(alloc, "WHO", WHO))?
@@ -180,6 +193,7 @@ fn draw<'a>(alloc: Global) -> Result<Command<'a>, AllocError> {
     )?
     .arg(marked)?
     .arg(helped)?
+    .arg(record(alloc))?
     .arg(most_output(alloc))?
     .arg(word(alloc, "FILE", FILE))
 }

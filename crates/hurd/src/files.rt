@@ -5,6 +5,7 @@ use crate::words::{Asked, TROUBLE, Wanted, Words, trouble};
 use hurd_program::{
     TextSort, perform, perform_pair, perform_sample, perform_vectors, perform_witnesses,
 };
+use hurd_record::perform_record;
 use hurd_terminal::{Input, Output};
 use std::alloc::{AllocError, Global};
 use std::fs::File;
@@ -58,10 +59,16 @@ fn serve_from<R: Read + Drop>(
     reader: R,
 ) -> u8 {
     let alloc = rt.alloc();
-    let mut input = Input::new(reader);
+    let mut input = match wanted {
+        Wanted::Record(_) => Input::long(reader),
+        Wanted::Request(_) | Wanted::Vectors | Wanted::Witnesses { .. } => Input::new(reader),
+    };
     let mut output = Output::new(Limited::new(io::writer(rt), most));
     let mut errors = Output::new(Vec::new(alloc));
     let status = match wanted {
+        Wanted::Record(report) => {
+            perform_record(alloc, report, name, &mut input, &mut output, &mut errors)
+        }
         Wanted::Request(request) => {
             perform(alloc, request, name, &mut input, &mut output, &mut errors)
         }

@@ -4,6 +4,7 @@ use crate::shown::all_shown;
 use clap::error::ErrorKind;
 use clap::{ArgMatches, Error};
 use hurd_program::{Request, TextSort, Verb};
+use hurd_record::Report;
 use hurd_terminal::Output;
 use std::alloc::{AllocError, Global};
 use std::{env, io};
@@ -15,6 +16,8 @@ pub const TROUBLE: u8 = 2;
 #[derive(Drop)]
 pub enum Wanted {
     Request(Request),
+    /// A report of a record.
+    Record(Report),
     /// A list as vectors.
     Vectors,
     /// What these learn of a script, with how they could be told it.
@@ -116,6 +119,9 @@ fn asked_by(alloc: Global, verb: &str, matches: &ArgMatches<'_>) -> Result<Asked
             two: text_of(alloc, matches, "TWO")?,
         }),
         "sample" => sample_of(matches),
+        "run" | "learn" | "see" | "draw" if matches.get_flag("record") => {
+            record_of(alloc, verb, matches)
+        }
         "run" if matches.get_flag("json") => vectors_of(alloc, matches),
         "learn" if matches.get_flag("how") => witnesses_of(alloc, matches),
         _ => request_of(alloc, verb, matches),
@@ -196,6 +202,30 @@ fn sort_of(matches: &ArgMatches<'_>, file: &String) -> TextSort {
     } else {
         TextSort::Script
     }
+}
+
+/// A report of a record.
+fn record_of(alloc: Global, verb: &str, matches: &ArgMatches<'_>) -> Result<Asked, Unasked> {
+    let report = match verb {
+        "learn" => Report::Lessons {
+            who: text_of(alloc, matches, "WHO")?,
+            most: bytes_of(matches, "max-look")?,
+        },
+        "see" => Report::Sight {
+            who: text_of(alloc, matches, "WHO")?,
+            most: bytes_of(matches, "max-look")?,
+        },
+        "draw" => Report::Picture {
+            who: named_by(alloc, matches)?,
+            can: matches.get_str("can").is_some(),
+        },
+        _ => Report::Transcript,
+    };
+    let file = text_of(alloc, matches, "FILE")?;
+    Ok(Asked::Text {
+        wanted: Wanted::Record(report),
+        file,
+    })
 }
 
 /// The same of a verb for one file.
