@@ -50,7 +50,7 @@ fn most_look<'a>(alloc: Global) -> Arg<'a> {
     )
 }
 
-/// The option of verbs that read a record. Fails only if memory runs out.
+/// The option by which FILE is a record.
 fn record<'a>(alloc: Global) -> Arg<'a> {
     Arg::new(alloc, "record")
         .long("record")
