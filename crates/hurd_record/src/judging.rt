@@ -71,6 +71,13 @@ impl Judging {
         }
     }
 
+    /// There is a task with these ids. Fails only if memory runs out.
+    fn add(&mut self, ids: Ids) -> Result<(), AllocError> {
+        self.tasks.push(ids)?;
+        self.count = self.tasks.len();
+        Ok(())
+    }
+
     /// Does what a line says, and prints what the report has of it.
     fn heed<W: Write>(
         &mut self,
@@ -81,10 +88,7 @@ impl Judging {
     ) -> Result<(), Fault> {
         match said {
             LineSaid::Nothing => {}
-            LineSaid::Task(ids) => {
-                self.tasks.push(ids)?;
-                self.count = self.tasks.len();
-            }
+            LineSaid::Task(ids) => self.add(ids)?,
             LineSaid::Call(listed) => {
                 let mut begun = self.take_begun(alloc, report)?;
                 begun.tell(alloc, report, listed, output)?;
