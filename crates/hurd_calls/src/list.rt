@@ -1,14 +1,16 @@
 //! A list of calls on its way.
-ghost use Rattle.std.specs.Prelude.{◌≡◌, ◌+◌, ◌<◌, ◌≤◌, IfErr, IfOk, OnOk, length};
+ghost use Rattle.std.specs.Prelude.{◌≡◌, ◌+◌, ◌<◌, ◌≤◌, IfErr, IfOk, Ok, OnOk, length};
 ghost use Rattle.std.specs.Option.{option_map};
 ghost use Rattle.hurd_creds.specs.declared.name.TaskId.{TaskId};
 ghost use Rattle.hurd_kinds.specs.Boxes.{box_meaning};
 ghost use Rattle.hurd_lists.specs.Lists.{listed_by};
 ghost use Rattle.hurd_machine.specs.Sound.{Sound};
 ghost use Rattle.hurd_tmpfs.specs.Tree.{new_tmpfs};
+ghost use Rattle.hurd_world.specs.Boot.{boot_of, first_world};
+ghost use Rattle.hurd_world.specs.Held.{world_of};
 ghost use Rattle.hurd_calls.specs.Faults.{NotBegun};
 ghost use Rattle.hurd_calls.specs.Lists.{lists, way_of};
-ghost use Rattle.hurd_calls.specs.Running.{BeginsOver, given, way_in};
+ghost use Rattle.hurd_calls.specs.Running.{given};
 ghost use Rattle.hurd_calls.specs.Tasks.{noun_of, task_of};
 
 use crate::beginning::{begun, complaint_of, parsed};
@@ -59,8 +61,10 @@ impl RunningCalls {
     /// Errors, in order: `Boot` with its world's refusal; `Memory` at any point.
     #[tactic(auto, unfolding(hurd_kinds::specs::Boxes::box_meaning))]
     pub fn over(alloc: Global, tasks: Vec<Ids>) -> Result<Box<RunningCalls>, Fault>
-        ensures ok { IfOk result (λ running. BeginsOver tasks.items (way_in running.value)) }
-        ensures sound { IfOk result (λ running. Sound (way_in running.value).world) }
+        ensures boots { IfOk result (λ running. boot_of new_tmpfs tasks.items ≡ Ok tt) }
+        ensures world { IfOk result (λ running. world_of box_meaning running.value.world.value ≡ first_world new_tmpfs tasks.items) }
+        ensures sound { IfOk result (λ running. Sound (world_of box_meaning running.value.world.value)) }
+        ensures tasks { IfOk result (λ running. running.value.tasks ≡ length tasks.items) }
         ensures err { IfErr result (λ fault. NotBegun new_tmpfs tasks.items fault) }
     {
         let count = tasks.len();
@@ -77,7 +81,7 @@ impl RunningCalls {
 
     /// Has this call alone to tell next, as if it were the first. Fails only if memory runs out.
     pub fn take(&mut self, listed: ListedCall<ServerBox>) -> Result<(), AllocError>
-        ensures { OnOk result (way_in self.new ≡ given (listed_by box_meaning listed) (way_in self.old)) }
+        ensures { OnOk result (way_of self.new.world.value self.new.calls.items self.new.told self.new.tasks ≡ given (listed_by box_meaning listed) (way_of self.old.world.value self.old.calls.items self.old.told self.old.tasks)) }
     {
         self.calls.clear();
         self.told = 0;
