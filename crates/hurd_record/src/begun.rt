@@ -1,4 +1,8 @@
 //! A record whose world has begun.
+ghost use Rattle.std.specs.Prelude.{IfErr};
+ghost use Rattle.hurd_terminal.specs.Faults.{IsPrintFault};
+ghost use Rattle.hurd_record.specs.Faults.{IsBeginFault};
+
 use crate::ending::print_end;
 use crate::report::Report;
 use hurd_calls::RunningCalls;
@@ -24,11 +28,9 @@ pub(crate) struct Begun {
 /// Those whom a report names, if it names any.
 ///
 /// Errors, in order: `Unknown` if one of them isn't in the record; `Memory` at any point.
-fn heard(
-    alloc: Global,
-    report: &Report,
-    running: &RunningCalls,
-) -> Result<Option<Learners>, Fault> {
+fn heard(alloc: Global, report: &Report, running: &RunningCalls) -> Result<Option<Learners>, Fault>
+    ensures { IfErr result IsBeginFault }
+{
     let Some(who) = report.who() else {
         return Ok(None);
     };
@@ -45,7 +47,9 @@ fn tell_plainly<W: Write>(
     alloc: Global,
     running: &mut RunningCalls,
     output: &mut Output<W>,
-) -> Result<(), Fault> {
+) -> Result<(), Fault>
+    ensures { IfErr result (λ fault. IsPrintFault output.new fault) }
+{
     let Some(answer) = running.next(alloc)? else {
         return Ok(());
     };
@@ -57,7 +61,9 @@ impl Begun {
     /// Begins the world of tasks with these ids.
     ///
     /// Errors, in order: `Boot` with the world's refusal; `Unknown` if somebody is named who isn't in it; `Memory` at any point.
-    pub(crate) fn over(alloc: Global, report: &Report, tasks: Vec<Ids>) -> Result<Begun, Fault> {
+    pub(crate) fn over(alloc: Global, report: &Report, tasks: Vec<Ids>) -> Result<Begun, Fault>
+        ensures { IfErr result IsBeginFault }
+    {
         let running = RunningCalls::over(alloc, tasks)?;
         let learners = heard(alloc, report, &running)?;
         Ok(Begun {
@@ -77,7 +83,9 @@ impl Begun {
         report: &Report,
         listed: ListedCall<ServerBox>,
         output: &mut Output<W>,
-    ) -> Result<(), Fault> {
+    ) -> Result<(), Fault>
+        ensures { IfErr result (λ fault. IsPrintFault output.new fault) }
+    {
         self.running.take(listed)?;
         match (report, &self.learners) {
             (Report::Transcript, _) => tell_plainly(alloc, &mut self.running, output),
@@ -108,7 +116,9 @@ impl Begun {
         alloc: Global,
         report: &Report,
         output: &mut Output<W>,
-    ) -> Result<(), Fault> {
+    ) -> Result<(), Fault>
+        ensures { IfErr result (λ fault. IsPrintFault output.new fault) }
+    {
         print_end(
             alloc,
             report,

@@ -1,4 +1,7 @@
 //! What is printed at the end of a record.
+ghost use Rattle.std.specs.Prelude.{IfErr};
+ghost use Rattle.hurd_terminal.specs.Faults.{IsPrintFault};
+
 use crate::report::Report;
 use hurd_calls::RunningCalls;
 use hurd_creds::Bytes;
@@ -70,7 +73,9 @@ pub(crate) fn print_end<W: Write>(
     learners: &Option<Learners>,
     tally: Tally,
     output: &mut Output<W>,
-) -> Result<(), Fault> {
+) -> Result<(), Fault>
+    ensures { IfErr result (λ fault. IsPrintFault output.new fault) }
+{
     let text = end_text(alloc, report, world, learners, tally)?;
     output.print(text.as_slice())
 }

@@ -1,4 +1,13 @@
 //! A record on its way, line by line.
+ghost use Rattle.std.specs.Prelude.{◌≡◌, IfErr, IfOk, codes};
+ghost use Rattle.std.specs.Option.{is_some};
+ghost use Rattle.hurd_dialogue.specs.Complaints.{complaint_on};
+ghost use Rattle.hurd_kinds.specs.Boxes.{box_meaning};
+ghost use Rattle.hurd_lists.specs.Flaws.{Gives, flaw_text};
+ghost use Rattle.hurd_lists.specs.Lists.{Standing, said_onto};
+ghost use Rattle.hurd_record.specs.Faults.{IsBeginFault, IsTellFault};
+ghost use Rattle.hurd_record.specs.Lines.{Says, said_with};
+
 use crate::begun::Begun;
 use crate::report::Report;
 use hurd_creds::{Ids, MOST_SCRIPT};
@@ -51,7 +60,9 @@ impl Judging {
     }
 
     /// What a line says, or why it is bad.
-    fn said(&self, alloc: Global, line: &[u8]) -> Result<LineSaid<ServerBox>, LineFault> {
+    fn said(&self, alloc: Global, line: &[u8]) -> Result<LineSaid<ServerBox>, LineFault>
+        ensures { (s : Standing) → Says s self.now.count (is_some self.now.begun) → Gives (said_onto box_meaning s) (said_with s line.now) result }
+    {
         if line.len() > MOST_SCRIPT {
             return Err(LineFault::Bad(ListFlaw::Length));
         }
@@ -61,7 +72,9 @@ impl Judging {
     /// The record with its world, which begins here if no call came yet.
     ///
     /// Errors, in order: `Boot` with the world's refusal; `Unknown` if somebody is named who isn't in it; `Memory` at any point.
-    fn take_begun(&mut self, alloc: Global, report: &Report) -> Result<Begun, Fault> {
+    fn take_begun(&mut self, alloc: Global, report: &Report) -> Result<Begun, Fault>
+        ensures { IfErr result IsBeginFault }
+    {
         match self.begun.take() {
             Some(begun) => Ok(begun),
             None => {
@@ -85,7 +98,9 @@ impl Judging {
         report: &Report,
         said: LineSaid<ServerBox>,
         output: &mut Output<W>,
-    ) -> Result<(), Fault> {
+    ) -> Result<(), Fault>
+        ensures { IfErr result (λ fault. IsTellFault output.new fault) }
+    {
         match said {
             LineSaid::Nothing => {}
             LineSaid::Task(ids) => self.add(ids)?,
@@ -99,7 +114,10 @@ impl Judging {
     }
 
     /// A bad line, with what is said of it. Fails only if memory runs out.
-    fn bad(&self, alloc: Global, line: &[u8], flaw: ListFlaw) -> Result<BadLine, AllocError> {
+    fn bad(&self, alloc: Global, line: &[u8], flaw: ListFlaw) -> Result<BadLine, AllocError>
+        ensures line { IfOk result (λ bad. bad.line ≡ self.now.line) }
+        ensures complaint { IfOk result (λ bad. bad.complaint.items ≡ complaint_on (codes ": bad call list: ") line.now self.now.line (flaw_text flaw)) }
+    {
         let complaint = complaint_on(alloc, ": bad call list: ", line, self.line, flaw.text())?;
         Ok(BadLine {
             line: self.line,
@@ -114,7 +132,9 @@ impl Judging {
         report: &Report,
         line: &[u8],
         output: &mut Output<W>,
-    ) -> Result<Option<BadLine>, Fault> {
+    ) -> Result<Option<BadLine>, Fault>
+        ensures { IfErr result (λ fault. IsTellFault output.new fault) }
+    {
         match self.said(alloc, line) {
             Ok(said) => {
                 self.heed(alloc, report, said, output)?;
@@ -133,7 +153,9 @@ impl Judging {
         report: &Report,
         text: &'a [u8],
         output: &mut Output<W>,
-    ) -> Result<Lines<'a>, Fault> {
+    ) -> Result<Lines<'a>, Fault>
+        ensures { IfErr result (λ fault. IsTellFault output.new fault) }
+    {
         let mut left = text;
         while let Some(end) = memchr(b'\n', left) {
             if let Some(bad) = self.take_line(alloc, report, &left[..end], output)? {
@@ -150,7 +172,9 @@ impl Judging {
         alloc: Global,
         report: &Report,
         output: &mut Output<W>,
-    ) -> Result<(), Fault> {
+    ) -> Result<(), Fault>
+        ensures { IfErr result (λ fault. IsTellFault output.new fault) }
+    {
         let begun = self.take_begun(alloc, report)?;
         begun.end(alloc, report, output)
     }

@@ -1,4 +1,8 @@
 //! A record from its first byte to its end.
+ghost use Rattle.std.specs.Prelude.{◌≡◌, ◌++◌, IfErr, IfOk, codes};
+ghost use Rattle.hurd_record.specs.Faults.{Ended, IsRecordFault, IsTellFault};
+ghost use Rattle.hurd_record.specs.Reports.{stranger_of, word_of};
+
 use crate::judging::{BadLine, Judging, Lines};
 use crate::report::Report;
 use hurd_creds::MOST_SCRIPT;
@@ -19,7 +23,9 @@ fn judge_read<'a, W: Write>(
     text: &'a [u8],
     more: bool,
     output: &mut Output<W>,
-) -> Result<Lines<'a>, Fault> {
+) -> Result<Lines<'a>, Fault>
+    ensures { IfErr result (λ fault. IsTellFault output.new fault) }
+{
     let left = match judging.take_lines(alloc, report, text, output)? {
         Lines::Left(left) => left,
         Lines::Bad(bad) => return Ok(Lines::Bad(bad)),
@@ -42,7 +48,9 @@ fn judge_all<R: Read, W: Write>(
     judging: &mut Judging,
     input: &mut Input<R>,
     output: &mut Output<W>,
-) -> Result<Option<BadLine>, Fault> {
+) -> Result<Option<BadLine>, Fault>
+    ensures { IfErr result (λ fault. IsRecordFault input.new output.new fault) }
+{
     let mut buffer = [0; READ_BYTES];
     let mut text = Vec::new(alloc);
     for _ in 0..u64::MAX {
@@ -66,7 +74,9 @@ fn print_record<R: Read, W: Write>(
     report: &Report,
     input: &mut Input<R>,
     output: &mut Output<W>,
-) -> Result<Option<BadLine>, Fault> {
+) -> Result<Option<BadLine>, Fault>
+    ensures { IfErr result (λ fault. IsRecordFault input.new output.new fault) }
+{
     let mut judging = Judging::new(alloc);
     let bad = judge_all(alloc, report, &mut judging, input, output)?;
     judging.end(alloc, report, output)?;
@@ -74,7 +84,9 @@ fn print_record<R: Read, W: Write>(
 }
 
 /// What is said after the name of a file where somebody is named who isn't in it; nothing if nobody is named. Fails only if memory runs out.
-fn stranger(alloc: Global, report: &Report) -> Result<Vec<u8>, AllocError> {
+fn stranger(alloc: Global, report: &Report) -> Result<Vec<u8>, AllocError>
+    ensures { IfOk result (λ line. line.items ≡ stranger_of (word_of report.now)) }
+{
     let mut line = Vec::new(alloc);
     if let Some(who) = report.who() {
         line.extend_from_slice(b": no such task: ")?;
@@ -92,7 +104,9 @@ pub fn perform_record<R: Read, W: Write, E: Write>(
     input: &mut Input<R>,
     output: &mut Output<W>,
     errors: &mut Output<E>,
-) -> u8 {
+) -> u8
+    ensures { Ended file.now (stranger_of (word_of report.now)) E.contents input.new output.new errors.old errors.new result }
+{
     let Ok(stranger) = stranger(alloc, report) else {
         return finish(Err(Fault::Memory), file, b"", b"", errors);
     };

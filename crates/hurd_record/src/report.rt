@@ -1,4 +1,7 @@
 //! What is printed of a record.
+ghost use Rattle.std.specs.Prelude.{◌≡◌};
+ghost use Rattle.std.specs.Option.{option_map};
+ghost use Rattle.hurd_record.specs.Reports.{word_of};
 
 /// What is printed of a record.
 #[derive(Debug, Drop)]
@@ -16,7 +19,9 @@ pub enum Report {
 
 impl Report {
     /// Those whom it names, if it names any.
-    pub(crate) fn who(&self) -> Option<&str> {
+    pub(crate) fn who(&self) -> Option<&str>
+        ensures { option_map (λ s. s.now) result ≡ word_of self.now }
+    {
         match self {
             Report::Transcript => None,
             Report::Lessons { who, .. } | Report::Sight { who, .. } => Some(who.as_str()),
