@@ -105,9 +105,8 @@ impl Judging {
             LineSaid::Nothing => {}
             LineSaid::Task(ids) => self.add(ids)?,
             LineSaid::Call(listed) => {
-                let mut begun = self.take_begun(alloc, report)?;
-                begun.tell(alloc, report, listed, output)?;
-                self.begun = Some(begun);
+                let begun = self.take_begun(alloc, report)?;
+                self.begun = Some(begun.tell(alloc, report, listed, output)?);
             }
         }
         Ok(())
@@ -157,7 +156,10 @@ impl Judging {
         ensures { IfErr result (λ fault. IsTellFault output.new fault) }
     {
         let mut left = text;
-        while let Some(end) = memchr(b'\n', left) {
+        for _ in 0..text.len() {
+            let Some(end) = memchr(b'\n', left) else {
+                break;
+            };
             if let Some(bad) = self.take_line(alloc, report, &left[..end], output)? {
                 return Ok(Lines::Bad(bad));
             }
