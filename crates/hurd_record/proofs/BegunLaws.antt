@@ -1,5 +1,5 @@
 -- What is kept of a record whose world has begun.
-use Rattle.std.proofs.Common.{◌≡◌, ℕ, List, Option, true}
+use Rattle.std.proofs.Common.{ℕ, List, Option, true}
 use Rattle.hurd_creds.specs.declared.name.TaskId.{TaskId}
 use Rattle.hurd_dialogue.specs.Parts.{Way}
 use Rattle.hurd_lessons.specs.declared.tally.Tally.{Tally}

@@ -1,1 +1,2 @@
 pub mod BegunLaws
+pub mod EndedLaws

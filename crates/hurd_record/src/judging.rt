@@ -160,10 +160,11 @@ impl Judging {
             let Some(end) = memchr(b'\n', left) else {
                 break;
             };
-            if let Some(bad) = self.take_line(alloc, report, &left[..end], output)? {
+            let (line, after) = left.split_at(end);
+            if let Some(bad) = self.take_line(alloc, report, line, output)? {
                 return Ok(Lines::Bad(bad));
             }
-            left = &left[end + 1..];
+            left = &after[1..];
         }
         Ok(Lines::Left(left))
     }

@@ -8,11 +8,20 @@ use crate::report::Report;
 use hurd_creds::MOST_SCRIPT;
 use hurd_terminal::{Fault, Input, Output, finish};
 use hurd_words::escapes::push_escaped;
+use memchr::memchr;
 use std::alloc::{AllocError, Global};
 use std::io::{Read, Write};
 
 /// How many bytes one read asks for.
 const READ_BYTES: usize = 65_536;
+
+/// Whether no line ends in a text after its first bytes, and it is no longer than a line may be.
+fn is_mid_line(text: &[u8], before: usize) -> bool {
+    match text.get(before..) {
+        Some(new) => memchr(b'\n', new).is_none() && text.len() <= MOST_SCRIPT,
+        None => false,
+    }
+}
 
 /// Judges what was read and not judged yet: the lines that end in it; and the last, if nothing comes after it or it is longer than a line may be. Gives
 /// what is left to judge, or the bad line.
@@ -54,7 +63,11 @@ fn judge_all<R: Read, W: Write>(
     let mut buffer = [0; READ_BYTES];
     let mut text = Vec::new(alloc);
     for _ in 0..u64::MAX {
+        let before = text.len();
         let more = input.read_more(&mut buffer, &mut text)?;
+        if more && is_mid_line(text.as_slice(), before) {
+            continue;
+        }
         match judge_read(alloc, report, judging, text.as_slice(), more, output)? {
             Lines::Bad(bad) => return Ok(Some(bad)),
             Lines::Left(_) if !more => return Ok(None),
