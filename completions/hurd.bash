@@ -4,11 +4,11 @@
 # What a verb takes, into `operands` and `options`: FILE is a file, VERB a verb, and nothing is known of WHO.
 _hurd_takes() {
     case $1 in
-        run) operands=(FILE) options=(--calls --json --max-output -h --help) ;;
-        learn) operands=(WHO FILE) options=(--calls --how --max-look --max-output -h --help) ;;
-        see) operands=(WHO FILE) options=(--calls --max-look --max-output -h --help) ;;
+        run) operands=(FILE) options=(--calls --json --max-output --record -h --help) ;;
+        learn) operands=(WHO FILE) options=(--calls --how --max-look --max-output --record -h --help) ;;
+        see) operands=(WHO FILE) options=(--calls --max-look --max-output --record -h --help) ;;
         can) operands=(WHO FILE) options=(--all --calls --how --max-output -h --help) ;;
-        draw) operands=(FILE) options=(--as --calls --can --max-output -h --help) ;;
+        draw) operands=(FILE) options=(--as --calls --can --max-output --record -h --help) ;;
         compare) operands=(WHO FILE FILE) options=(--max-output -h --help) ;;
         sample) operands=() options=(--calls --max-output -h --help) ;;
         help) operands=(VERB) options=() ;;
