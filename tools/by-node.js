@@ -3,13 +3,21 @@
 const fs = require("node:fs");
 
 const MOST_TEXT = 1 << 21; // more than the program takes of a text
+const MOST_RECORD = 1 << 24; // of a record, which is read whole here
 const ERRORS = { ENOENT: 2, EACCES: 13, EPERM: 13, EISDIR: 21 }, OTHER = 5;
 const [page, ...words] = process.argv.slice(2);
 
-// at most so many first bytes of what is open
+// whether a record is asked for
+function is_record() {
+  const end = words.indexOf("--");
+  return (end < 0 ? words : words.slice(0, end)).includes("--record");
+}
+
+// at most so many first bytes of what is open; a record that is longer is refused
 function read_all(file) {
-  const parts = [], buffer = Buffer.alloc(1 << 16);
-  for (let count = 0; count <= MOST_TEXT;) {
+  const parts = [], buffer = Buffer.alloc(1 << 16), most = is_record() ? MOST_RECORD : MOST_TEXT;
+  let count = 0;
+  while (count <= most) {
     let more = 0;
     try {
       more = fs.readSync(file, buffer, 0, buffer.length, null);
@@ -21,6 +29,7 @@ function read_all(file) {
     parts.push(Buffer.from(buffer.subarray(0, more)));
     count += more;
   }
+  if (count > MOST_RECORD) end(`hurd: a record of more than ${MOST_RECORD} bytes needs a program that was built: docs/BUILDING.md\n`, 2);
   return Buffer.concat(parts);
 }
 
