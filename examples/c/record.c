@@ -1,6 +1,7 @@
 /* A program that keeps a record: root and alice work in a tree. What alice learns is printed at once, and each call is written to the file that is named.
    `hurd learn --record 1 FILE` then prints the same lessons after the same calls. */
 #include "hurd.h"
+#include <stdbool.h>
 #include <stdio.h>
 #include <stdlib.h>
 #include <string.h>
@@ -10,14 +11,19 @@ enum { ROOT = 0, ALICE = 1 };
 static hurd_world world = HURD_NO_WORLD;
 static FILE *record;
 
-/* Ends the program if memory ran out, or if a call was of no form. */
-static void expect(uint32_t status)
+/* Ends the program, and says why. */
+static void fail(const char *why)
 {
-    if (status == HURD_DONE)
-        return;
-    fputs(status == HURD_MEMORY ? "hurd: out of memory\n" : "record: no such call\n", stderr);
+    fprintf(stderr, "record: %s\n", why);
     hurd_end(&world);
     exit(2);
+}
+
+/* Ends the program if the library did not do what it was asked. */
+static void expect(uint32_t status)
+{
+    if (status != HURD_DONE)
+        fail(status == HURD_MEMORY ? "out of memory" : "no such call");
 }
 
 /* Writes what the library told last: lessons, which begin with a space, to standard output, and the lines of calls to the record. Replies begin with a bar. */
@@ -45,10 +51,14 @@ static uint64_t call(hurd_request request, const char *bytes)
     uint8_t line[256], data[256];
     hurd_said said = hurd_line(&request, (const uint8_t *)bytes, strlen(bytes), line, sizeof line);
     expect(said.status);
-    fprintf(record, "%.*s\n", (int)(said.length < sizeof line ? said.length : sizeof line), (const char *)line);
+    if (said.length > sizeof line)
+        fail("a line is too long for its room");
+    fprintf(record, "%.*s\n", (int)said.length, (const char *)line);
     hurd_reply reply = hurd_call(&world, &request, (const uint8_t *)bytes, strlen(bytes), data, sizeof data);
     expect(reply.status);
     keep();
+    if (reply.reply.which == HURD_IS_REFUSED)
+        fail("a call is refused");
     return reply.reply.number;
 }
 
@@ -59,6 +69,8 @@ static uint64_t open_path(uint32_t task, const char *path, uint32_t flags, uint3
     hurd_reply reply = hurd_open(&world, &request, (const uint8_t *)path, strlen(path));
     expect(reply.status);
     keep();
+    if (reply.reply.which != HURD_IS_PORT)
+        fail("a path is not opened");
     return reply.reply.number;
 }
 
@@ -79,9 +91,8 @@ int main(int count, char **words)
     uint64_t read = open_path(ALICE, "/notice", HURD_READ, 0);
     call((hurd_request){ .task = ALICE, .call = HURD_IO_READ, .port = read, .amount = 256, .offset = -1 }, "");
     hurd_end(&world);
-    if (fclose(record)) {
-        perror("record");
-        return 2;
-    }
+    bool is_cut = ferror(record) | ferror(stdout) | fflush(stdout);
+    if (fclose(record) || is_cut)
+        fail("cannot write");
     return 0;
 }
